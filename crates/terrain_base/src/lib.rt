@@ -5,8 +5,11 @@ mod fault;
 mod level;
 mod post;
 mod square;
+mod square_text;
+mod tile;
 
 pub use fault::{DeviceFault, NoMemory};
 pub use level::{CellLevel, columns, lat_step, lon_step, rows};
 pub use post::{Extremes, Post};
 pub use square::Square;
+pub use tile::TileId;
