@@ -1,1 +1,4 @@
+pub mod NameOrder
+pub mod NameTexts
 pub mod SquareTexts
+pub mod TileNumbers

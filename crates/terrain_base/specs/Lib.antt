@@ -1,3 +1,6 @@
 pub mod Cause
 pub mod Level
+pub mod Name
+pub mod NameParts
 pub mod SquareText
+pub mod Text

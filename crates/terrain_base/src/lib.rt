@@ -3,13 +3,16 @@
 
 mod fault;
 mod level;
+mod name;
 mod post;
 mod square;
 mod square_text;
+mod text;
 mod tile;
 
 pub use fault::{DeviceFault, NoMemory};
 pub use level::{CellLevel, columns, lat_step, lon_step, rows};
+pub use name::{Key, Name};
 pub use post::{Extremes, Post};
 pub use square::Square;
 pub use tile::TileId;
