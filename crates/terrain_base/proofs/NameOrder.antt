@@ -25,8 +25,8 @@ same_tile_text s t e =
     let tx = small_x t in
     let sy = small_y s in
     let ty = small_y t in
-    let first : (decimal s.z ≡ decimal t.z) × (decimal s.x ++ 47 ∷ decimal s.y ≡ decimal t.x ++ 47 ∷ decimal t.y) = cut 47 _ _ _ _ (lacks-decimal 47 s.z (omega arith) (omega arith)) (lacks-decimal 47 t.z (omega arith) (omega arith)) e in
-    let second : (decimal s.x ≡ decimal t.x) × (decimal s.y ≡ decimal t.y) = cut 47 _ _ _ _ (lacks-decimal 47 s.x (omega arith) (omega arith)) (lacks-decimal 47 t.x (omega arith) (omega arith)) first.1 in
+    let first : (decimal s.z ≡ decimal t.z) × (decimal s.x ++ 47 ∷ decimal s.y ≡ decimal t.x ++ 47 ∷ decimal t.y) = cut 47 _ _ _ _ (lacks-decimal s.z (omega arith)) (lacks-decimal t.z (omega arith)) e in
+    let second : (decimal s.x ≡ decimal t.x) × (decimal s.y ≡ decimal t.y) = cut 47 _ _ _ _ (lacks-decimal s.x (omega arith)) (lacks-decimal t.x (omega arith)) first.1 in
     same_tile s t (decimal_injective _ _ (omega arith) (omega arith) first.0) (decimal_injective _ _ (omega arith) (omega arith) second.1) (decimal_injective _ _ (omega arith) (omega arith) second.0)
 
 behind_cells : (xs ys : List ℕ) → codes "cells/" ++ xs ≡ codes "cells/" ++ ys → xs ≡ ys
@@ -49,7 +49,7 @@ no_tile t e =
 abbrev tag : List ℕ → ℕ
 tag ending = get_or ending 0 0 + length ending
 
-same_parts : (a b : Key) → stem_of a ≡ stem_of b → ending_of a ≡ ending_of b → a ≡ b
+pub same_parts : (a b : Key) → stem_of a ≡ stem_of b → ending_of a ≡ ending_of b → a ≡ b
 same_parts Manifest Manifest p q = refl
 same_parts Layer Layer p q = refl
 same_parts Stage Stage p q = refl

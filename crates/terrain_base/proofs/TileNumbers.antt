@@ -1,6 +1,6 @@
 -- The numbers of a tile fit 64 bits and few digits, and make the tile.
-use Rattle.std.specs.Prelude.{◌≡◌, ◌≤◌, ◌<◌, ◌^◌, ◌+◌, length, decimal}
-use Rattle.std.proofs.Common.{arith}
+use Rattle.std.specs.Prelude.{◌≡◌, ◌↔◌, ℕ, ◌≤◌, ◌<◌, ◌^◌, ◌+◌, Bool, true, false, Option, Some, None, IsSome, IfSome, length, decimal}
+use Rattle.std.proofs.Common.{arith, ap, sym, subst, ◌∙◌}
 use Rattle.std.proofs.lemmas.Fmt.{length-decimal-le}
 use Rattle.std.proofs.Math.Pow.{pow_mono}
 use Rattle.std.specs.Coded.{le_prop}
@@ -38,3 +38,9 @@ short_y t = let small = small_y t in length-decimal-le 5 t.y (omega arith) (omeg
 
 pub short_x : (t : TileId) → length (decimal t.x) ≤ 5
 short_x t = let small = small_x t in length-decimal-le 5 t.x (omega arith) (omega arith) (omega arith)
+
+pub tile_found : (o : Option TileId) (z x y : ℕ) (t : TileId) → (IsSome o ↔ ((z ≤ 14) × (x < 2 ^ (z + 1)) × (y < 2 ^ z))) → IfSome o (λ tile. (tile.z ≡ z) × (tile.x ≡ x) × (tile.y ≡ y)) → z ≡ t.z → x ≡ t.x → y ≡ t.y → o ≡ Some t
+tile_found None z x y t some value p q r =
+    let none : ◌≡◌ {A = Bool} false true = some.1 (subst (λ z. z ≤ 14) (sym p) t.z_in_range, rw (p, q) t.x_in_range, rw (p, r) t.y_in_range) in
+    absurd (cc)
+tile_found (Some tile) z x y t some value p q r = ap Some (same_tile tile t (value.0 ∙ p) (value.2 ∙ r) (value.1 ∙ q))

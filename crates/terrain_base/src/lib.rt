@@ -2,9 +2,11 @@
 #![tactic(auto)]
 
 mod fault;
+pub mod laws;
 mod level;
 mod name;
 mod post;
+mod read_name;
 mod square;
 mod square_text;
 mod text;

@@ -1,0 +1,14 @@
+-- What names are held to.
+use Rattle.std.specs.Prelude.{◌≡◌}
+use Rattle.terrain_base.specs.declared.square.Square.{Square}
+use Rattle.terrain_base.specs.declared.name.Key.{Key}
+use Rattle.terrain_base.specs.SquareText.{square_text}
+use Rattle.terrain_base.specs.Name.{text_of}
+
+-- squares with one text are one square
+abbrev pub SquaresDiffer : Type 0
+SquaresDiffer = (a b : Square) → square_text a ≡ square_text b → a ≡ b
+
+-- names with one text are one name
+abbrev pub NamesDiffer : Type 0
+NamesDiffer = (a b : Key) → text_of a ≡ text_of b → a ≡ b
