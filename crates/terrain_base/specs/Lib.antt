@@ -3,5 +3,9 @@ pub mod Level
 pub mod Name
 pub mod NameLaws
 pub mod NameParts
+pub mod Overwrite
+pub mod Run
 pub mod SquareText
+pub mod Step
+pub mod SureStore
 pub mod Text

@@ -9,6 +9,8 @@ mod post;
 mod read_name;
 mod square;
 mod square_text;
+mod store;
+mod sure_store;
 mod text;
 mod tile;
 
@@ -17,4 +19,6 @@ pub use level::{CellLevel, columns, lat_step, lon_step, rows};
 pub use name::{Key, Name};
 pub use post::{Extremes, Post};
 pub use square::Square;
+pub use store::{Change, Store};
+pub use sure_store::SureStore;
 pub use tile::TileId;

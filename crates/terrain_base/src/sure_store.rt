@@ -1,0 +1,70 @@
+// A store in memory that never fails.
+ghost use Rattle.std.specs.Prelude.{◌≡◌, Some, []};
+ghost use Rattle.std.specs.FinMap as map;
+ghost use Rattle.terrain_base.specs.SureStore.{files_of};
+
+use crate::{Change, DeviceFault, Name, Store};
+use std::alloc::Global;
+use std::collections::BTreeMap;
+
+/// A store in memory. It tells what it holds and its log, and its count of faults is always 0: of errors it
+/// answers `NoMemory` alone.
+#[derive(Drop)]
+pub struct SureStore {
+    alloc: Global,
+    files: BTreeMap<Name, Vec<u8>>,
+    log: Vec<Change>,
+}
+
+impl SureStore {
+    /// A store that holds nothing, with an empty log. Takes no memory.
+    pub fn new(alloc: Global) -> SureStore
+        ensures empty { ⟦<SureStore as Store>⟧.holds result ≡ Some map.empty }
+        ensures unlogged { ⟦<SureStore as Store>⟧.log result ≡ Some [] }
+    {
+        SureStore {
+            alloc,
+            files: BTreeMap::new(alloc),
+            log: Vec::new(alloc),
+        }
+    }
+
+    /// The puts and deletes so far, in their order.
+    pub fn log(&self) -> &[Change]
+        ensures { ⟦<SureStore as Store>⟧.log self.now ≡ Some result.now }
+    {
+        &self.log
+    }
+}
+
+impl Store for SureStore {
+    ghost holds = { λ store. Some (files_of store.files.entries) };
+
+    ghost log = { λ store. Some store.log.items };
+
+    ghost faults = { λ store. 0 };
+
+    fn get(&mut self, name: &Name) -> Result<Option<Vec<u8>>, DeviceFault> {
+        match self.files.get(name) {
+            None => Ok(None),
+            Some(bytes) => Ok(Some(bytes.to_vec(self.alloc)?)),
+        }
+    }
+
+    fn put(&mut self, name: &Name, bytes: &[u8]) -> Result<(), DeviceFault> {
+        let copy = bytes.to_vec(self.alloc)?;
+        self.log.push(Change::Put(*name))?;
+        self.files.insert(*name, copy)?;
+        Ok(())
+    }
+
+    fn delete(&mut self, name: &Name) -> Result<(), DeviceFault> {
+        self.log.push(Change::Delete(*name))?;
+        self.files.remove(name);
+        Ok(())
+    }
+
+    fn names(&mut self) -> Result<Vec<Name>, DeviceFault> {
+        Ok(self.files.keys().copied().collect(self.alloc)?)
+    }
+}
