@@ -3,5 +3,7 @@ pub mod Cause
 pub mod Fail
 pub mod Level
 pub mod Library
+pub mod MemLibrary
+pub mod MemSink
 pub mod Sink
 pub mod Work

@@ -1,6 +1,9 @@
 // A sink in memory that fails at the calls of a list.
-ghost use Rattle.std.specs.Prelude.{◌≡◌, Some, [], IfOk};
-ghost use Rattle.terrain_base.specs.Fail.{failed_of};
+ghost use Rattle.std.specs.Prelude.{◌≡◌, Some, [], IfOk, IfSome};
+ghost use Rattle.terrain_base.specs.Cause.{HasCause};
+ghost use Rattle.terrain_base.specs.Fail.{fail_at, failed_of, call_after};
+ghost use Rattle.terrain_base.specs.MemSink.{sink_fails, sink_calls, FailsAs};
+ghost use Rattle.terrain_base.specs.Sink.{Takes};
 
 use crate::fail::count_call;
 use crate::{DeviceFault, Fail, NoMemory, Sink, SureSink};
@@ -22,6 +25,8 @@ impl MemSink {
     pub fn new(alloc: Global, fails: &[Fail]) -> Result<MemSink, NoMemory>
         ensures taken { IfOk result (λ sink. ⟦<MemSink as Sink>⟧.taken sink ≡ Some []) }
         ensures faults { IfOk result (λ sink. ⟦<MemSink as Sink>⟧.faults sink ≡ 0) }
+        ensures fails { IfOk result (λ sink. sink_fails sink ≡ fails.now) }
+        ensures calls { IfOk result (λ sink. sink_calls sink ≡ 0) }
     {
         Ok(MemSink {
             inner: SureSink::new(alloc),
@@ -43,7 +48,14 @@ impl Sink for MemSink {
 
     ghost faults = { λ s. failed_of s.fails.items s.calls };
 
-    fn put(&mut self, bytes: &[u8]) -> Result<(), DeviceFault> {
+    fn put(&mut self, bytes: &[u8]) -> Result<(), DeviceFault>
+        ensures takes { Takes bytes.now (⟦<MemSink as Sink>⟧.taken self.old) (⟦<MemSink as Sink>⟧.taken self.new) result }
+        ensures cause { HasCause (⟦<MemSink as Sink>⟧.faults self.old) (⟦<MemSink as Sink>⟧.faults self.new) result }
+        // It fails exactly at the calls of the list, and then takes all or nothing.
+        ensures failing { FailsAs (fail_at (sink_fails self.old) (sink_calls self.old)) bytes.now (⟦<MemSink as Sink>⟧.taken self.old) (⟦<MemSink as Sink>⟧.taken self.new) result }
+        ensures fails { sink_fails self.new ≡ sink_fails self.old }
+        ensures calls { sink_calls self.new ≡ call_after (sink_calls self.old) }
+    {
         match count_call(&self.fails, &mut self.calls) {
             None => self.inner.put(bytes),
             Some(Fail { applied: true, .. }) => {
