@@ -1,6 +1,8 @@
 pub mod Book
 pub mod Cause
 pub mod Fail
+pub mod Grid
+pub mod Height
 pub mod Level
 pub mod Library
 pub mod MemLibrary

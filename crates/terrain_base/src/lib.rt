@@ -4,26 +4,34 @@
 
 mod fail;
 mod fault;
+mod grid;
+mod indexes;
 mod level;
 mod library;
 mod mem_library;
 mod mem_sink;
+mod params;
 mod post;
 mod sink;
 mod square;
+mod summary;
 mod sure_library;
 mod sure_sink;
 mod work;
 
 pub use fail::Fail;
 pub use fault::{DeviceFault, NoMemory};
-pub use level::{CellLevel, columns, lat_step, lon_step, rows};
+pub use grid::{Grid, grid_line, tolerance};
+pub use indexes::Indexes;
+pub use level::{CellLevel, columns, depth, lat_step, lon_step, rows};
 pub use library::{Fetched, Library};
 pub use mem_library::MemLibrary;
 pub use mem_sink::MemSink;
+pub use params::Params;
 pub use post::{Extremes, Post};
 pub use sink::Sink;
 pub use square::Square;
+pub use summary::Summary;
 pub use sure_library::SureLibrary;
 pub use sure_sink::SureSink;
 pub use work::Work;
