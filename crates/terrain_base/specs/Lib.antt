@@ -9,3 +9,4 @@ pub mod MemLibrary
 pub mod MemSink
 pub mod Sink
 pub mod Work
+pub mod SquareText

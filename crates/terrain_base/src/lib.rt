@@ -18,6 +18,8 @@ mod summary;
 mod sure_library;
 mod sure_sink;
 mod work;
+mod square_text;
+mod tile;
 
 pub use fail::Fail;
 pub use fault::{DeviceFault, NoMemory};
@@ -35,3 +37,4 @@ pub use summary::Summary;
 pub use sure_library::SureLibrary;
 pub use sure_sink::SureSink;
 pub use work::Work;
+pub use tile::TileId;

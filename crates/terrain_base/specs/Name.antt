@@ -1,0 +1,25 @@
+-- The text of each name, and the order of names by their texts.
+use Rattle.std.specs.Prelude.{List, ◌++◌, codes, decimal}
+use Rattle.std.specs.declared.cmp.Ordering.{Ordering}
+use Rattle.std.specs.Ordering.{nat_cmp, on}
+use Rattle.std.specs.Cmp.Lexicographic.{slice_cmp}
+use Rattle.terrain_base.specs.declared.tile.TileId.{TileId}
+use Rattle.terrain_base.specs.declared.name.Key.{Key}
+use Rattle.terrain_base.specs.declared.name.Key.TheVariants.{Manifest, Layer, Stage, Cell, Terrain, Note}
+use Rattle.terrain_base.specs.SquareText.{square_text}
+
+-- level, column and row in decimal (the TileJSON template `{z}/{x}/{y}`)
+abbrev pub tile_text : TileId → List ℕ
+tile_text tile = decimal tile.z ++ codes "/" ++ decimal tile.x ++ codes "/" ++ decimal tile.y
+
+abbrev pub text_of : Key → List ℕ
+text_of Manifest = codes "manifest.txt"
+text_of Layer = codes "layer.json"
+text_of Stage = codes "stage.dt"
+text_of (Cell square) = codes "cells/" ++ square_text square ++ codes ".dt"
+text_of (Terrain tile) = tile_text tile ++ codes ".terrain"
+text_of (Note tile) = tile_text tile ++ codes ".txt"
+
+-- the order of names: byte by byte, a text before those that it begins
+abbrev pub by_text : Key → Key → Ordering
+by_text = on text_of (slice_cmp nat_cmp)
