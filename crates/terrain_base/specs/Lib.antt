@@ -8,5 +8,5 @@ pub mod Library
 pub mod MemLibrary
 pub mod MemSink
 pub mod Sink
-pub mod Work
 pub mod SquareText
+pub mod Work

@@ -28,8 +28,16 @@ fn guess(bytes: &[u8]) -> Option<Square>
     };
     let north = 10 * digit_value(tens) + digit_value(units);
     let east = 100 * digit_value(hundreds) + 10 * digit_value(lon_tens) + digit_value(lon_units);
-    let lat = if side == b'n' { 90 + north } else { 90_u16.saturating_sub(north) };
-    let lon = if half == b'e' { 180 + east } else { 180_u16.saturating_sub(east) };
+    let lat = if side == b'n' {
+        90 + north
+    } else {
+        90_u16.saturating_sub(north)
+    };
+    let lon = if half == b'e' {
+        180 + east
+    } else {
+        180_u16.saturating_sub(east)
+    };
     Square::of(lon, lat)
 }
 

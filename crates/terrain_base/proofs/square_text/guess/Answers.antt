@@ -6,11 +6,11 @@ use Rattle.terrain_base.proofs.square_text.guess.Goals.{then-side-eq110, else-si
 pub returns : goal.returns
 returns c wanted e =
     let lat : c.if-side-eq110.lat ≡ wanted.lat = elim c.if-side-eq110.branch [
-      then-side-eq110 w ↦ omega (arith, north_of _ wanted e w.if-side-eq110.true)
-    | else-side-eq110 w ↦ omega (arith, south_of _ wanted e w.if-side-eq110.false)
+      | then-side-eq110 w ↦ omega (arith, north_of _ wanted e w.if-side-eq110.true)
+      | else-side-eq110 w ↦ omega (arith, south_of _ wanted e w.if-side-eq110.false)
     ] in
     let lon : c.if-half-eq101.lon ≡ wanted.lon = elim c.if-half-eq101.branch [
-      then-half-eq101 w ↦ omega (arith, east_of _ wanted e w.if-half-eq101.true)
-    | else-half-eq101 w ↦ omega (arith, west_of _ wanted e w.if-half-eq101.false)
+      | then-half-eq101 w ↦ omega (arith, east_of _ wanted e w.if-half-eq101.true)
+      | else-half-eq101 w ↦ omega (arith, west_of _ wanted e w.if-half-eq101.false)
     ] in
     square_found _ _ _ wanted c.of.ensures.some c.of.ensures.value lat lon
