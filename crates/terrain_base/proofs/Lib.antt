@@ -1,2 +1,5 @@
 pub mod Books
+pub mod NameOrder
+pub mod NameTexts
 pub mod SquareTexts
+pub mod TileNumbers

@@ -18,10 +18,10 @@ same_square s t p q = λ i. record {
 
 -- ---- the two halves of a text, by the hemisphere
 
-abbrev lat_case : Bool → ℕ → List ℕ
+abbrev pub lat_case : Bool → ℕ → List ℕ
 lat_case north lat = if north then codes "n" ++ two_digits (lat - 90) else (codes "s" ++ two_digits (90 - lat))
 
-abbrev lon_case : Bool → ℕ → List ℕ
+abbrev pub lon_case : Bool → ℕ → List ℕ
 lon_case east lon = if east then codes "e" ++ three_digits (lon - 180) else (codes "w" ++ three_digits (180 - lon))
 
 -- ---- a square is found again in its text

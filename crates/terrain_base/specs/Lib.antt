@@ -10,3 +10,7 @@ pub mod MemSink
 pub mod Sink
 pub mod SquareText
 pub mod Work
+pub mod Name
+pub mod NameParts
+pub mod SquareText
+pub mod Text

@@ -1,5 +1,5 @@
 -- The text of each name, and the order of names by their texts.
-use Rattle.std.specs.Prelude.{List, ◌++◌, codes, decimal}
+use Rattle.std.specs.Prelude.{ℕ, List, ◌++◌, codes, decimal}
 use Rattle.std.specs.declared.cmp.Ordering.{Ordering}
 use Rattle.std.specs.Ordering.{nat_cmp, on}
 use Rattle.std.specs.Cmp.Lexicographic.{slice_cmp}
@@ -10,13 +10,13 @@ use Rattle.terrain_base.specs.SquareText.{square_text}
 
 -- level, column and row in decimal (the TileJSON template `{z}/{x}/{y}`)
 abbrev pub tile_text : TileId → List ℕ
-tile_text tile = decimal tile.z ++ codes "/" ++ decimal tile.x ++ codes "/" ++ decimal tile.y
+tile_text tile = decimal tile.z ++ (codes "/" ++ (decimal tile.x ++ (codes "/" ++ decimal tile.y)))
 
 abbrev pub text_of : Key → List ℕ
 text_of Manifest = codes "manifest.txt"
 text_of Layer = codes "layer.json"
 text_of Stage = codes "stage.dt"
-text_of (Cell square) = codes "cells/" ++ square_text square ++ codes ".dt"
+text_of (Cell square) = codes "cells/" ++ (square_text square ++ codes ".dt")
 text_of (Terrain tile) = tile_text tile ++ codes ".terrain"
 text_of (Note tile) = tile_text tile ++ codes ".txt"
 

@@ -1,5 +1,5 @@
 -- A name's text before its dot, and behind it.
-use Rattle.std.specs.Prelude.{List, ◌++◌, codes}
+use Rattle.std.specs.Prelude.{ℕ, List, ◌++◌, codes}
 use Rattle.terrain_base.specs.declared.name.Key.{Key}
 use Rattle.terrain_base.specs.declared.name.Key.TheVariants.{Manifest, Layer, Stage, Cell, Terrain, Note}
 use Rattle.terrain_base.specs.SquareText.{square_text}
