@@ -7,10 +7,9 @@ pub mod Level
 pub mod Library
 pub mod MemLibrary
 pub mod MemSink
-pub mod Sink
-pub mod SquareText
-pub mod Work
 pub mod Name
 pub mod NameParts
+pub mod Sink
 pub mod SquareText
 pub mod Text
+pub mod Work
