@@ -2,6 +2,7 @@
 //! and the outside.
 #![tactic(auto)]
 
+mod division;
 mod fail;
 mod fault;
 mod level;
@@ -15,6 +16,7 @@ mod sure_library;
 mod sure_sink;
 mod work;
 
+pub use division::{ceil_div, floor_div, isqrt};
 pub use fail::Fail;
 pub use fault::{DeviceFault, NoMemory};
 pub use level::{CellLevel, columns, lat_step, lon_step, rows};
