@@ -3,3 +3,4 @@ pub mod NameOrder
 pub mod NameTexts
 pub mod SquareTexts
 pub mod TileNumbers
+pub mod Quotients

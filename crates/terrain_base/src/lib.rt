@@ -2,6 +2,7 @@
 //! and the outside.
 #![tactic(auto)]
 
+mod division;
 mod fail;
 mod fault;
 mod grid;
@@ -23,6 +24,7 @@ mod text;
 mod tile;
 mod work;
 
+pub use division::{ceil_div, floor_div, isqrt};
 pub use fail::Fail;
 pub use fault::{DeviceFault, NoMemory};
 pub use grid::{Grid, grid_line, tolerance};
