@@ -1,6 +1,8 @@
+pub mod Books
 pub mod NameOrder
 pub mod NameTexts
 pub mod Overwrites
+pub mod Quotients
 pub mod Runs
 pub mod SquareTexts
 pub mod Stops

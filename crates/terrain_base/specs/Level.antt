@@ -35,3 +35,9 @@ rows_of level = 3600 / lat_step_of level + 1
 
 abbrev pub columns_of : Square → CellLevel → ℕ
 columns_of square level = 3600 / lon_step_of square level + 1
+
+-- the deepest tile level at which a cell of this level has something to tell
+abbrev pub depth_of : CellLevel → ℕ
+depth_of Zero = 9
+depth_of One = 12
+depth_of Two = 14

@@ -1,7 +1,6 @@
 // The levels of DTED cells, and the spacing of their posts (MIL-PRF-89020).
-ghost use Rattle.std.specs.Prelude.{◌≡◌};
-ghost use Rattle.std.specs.Prelude.{◌<◌};
-ghost use Rattle.terrain_base.specs.Level.{lat_step_of, zone_factor_of, lon_step_of, rows_of, columns_of};
+ghost use Rattle.std.specs.Prelude.{◌≡◌, ◌<◌, min};
+ghost use Rattle.terrain_base.specs.Level.{lat_step_of, depth_of, zone_factor_of, lon_step_of, rows_of, columns_of};
 
 use crate::Square;
 
@@ -58,4 +57,17 @@ pub fn columns(square: Square, level: CellLevel) -> u16
     ensures { result ≡ columns_of square level }
 {
     3600 / lon_step(square, level) + 1
+}
+
+/// The deepest level of the tiles that a cell of this level makes, cut at the database's cap: 9, 12
+/// or 14.
+pub fn depth(level: CellLevel, cap: u8) -> u8
+    ensures { result ≡ min (depth_of level) cap }
+{
+    let deepest: u8 = match level {
+        CellLevel::Zero => 9,
+        CellLevel::One => 12,
+        CellLevel::Two => 14,
+    };
+    deepest.min(cap)
 }
