@@ -36,7 +36,7 @@ abbrev pub HasNumber : List ℕ → ℕ → ℕ → ℕ → Type 0
 HasNumber text from to n = number_of (slice_range text from to) ≡ Some n
 
 -- whether the bytes from a place on spell a word
-abbrev pub spells : List ℕ → ℕ → List ℕ → Bool
+unfoldable pub spells : List ℕ → ℕ → List ℕ → Bool
 spells text at word = starts_with nat_eq (drop at text) word
 
 abbrev pub Spells : List ℕ → ℕ → List ℕ → Type 0

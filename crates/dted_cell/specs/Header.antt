@@ -24,21 +24,34 @@ south = 83
 
 -- ---- what the fields say, as numbers
 
+-- an angle's degrees, from the end of the half that its second letter names
+abbrev pub degrees_from : List ℕ → ℕ → ℕ → ℕ → ℕ
+degrees_from text at half letter =
+    if slice_index text (at + 7) == letter then half + number_at text at (at + 3) else (half - number_at text at (at + 3))
+
 -- the origin's degrees east of 180 degrees west, of which 360 is 0, and north of the south pole
 abbrev pub degrees_east : List ℕ → ℕ
-degrees_east text = if slice_index text 11 == east then 180 + number_at text 4 7 else (180 - number_at text 4 7)
+degrees_east text = degrees_from text 4 180 east
 
 abbrev pub degrees_north : List ℕ → ℕ
-degrees_north text = if slice_index text 19 == north then 90 + number_at text 12 15 else (90 - number_at text 12 15)
+degrees_north text = degrees_from text 12 90 north
 
--- the square at the origin (of 90 degrees north, where no square is, this makes one at the south pole)
-unfoldable pub square_at : List ℕ → Square
-square_at text = record {
-    lat = degrees_north text % 180;
-    lon = degrees_east text % 360;
-    lat_in_range = mod-lt (degrees_north text) (lit< tt);
-    lon_in_range = mod-lt (degrees_east text) (lit< tt);
+-- an angle's minutes and seconds are 0
+abbrev pub is_whole : List ℕ → ℕ → Bool
+is_whole text at = number_at text (at + 3) (at + 5) == 0 && number_at text (at + 5) (at + 7) == 0
+
+-- the square at these degrees (of 90 degrees north, where no square is, this makes one at the south pole)
+unfoldable pub square_of : ℕ → ℕ → Square
+square_of lon lat = record {
+    lat = lat % 180;
+    lon = lon % 360;
+    lat_in_range = mod-lt lat (lit< tt);
+    lon_in_range = mod-lt lon (lit< tt);
   }
+
+-- the square at the origin
+unfoldable pub square_at : List ℕ → Square
+square_at text = square_of (degrees_east text) (degrees_north text)
 
 -- the level whose posts lie this far apart in latitude, in tenths of an arc-second
 abbrev pub level_of_interval : ℕ → Option CellLevel

@@ -10,7 +10,7 @@ use Rattle.dted_cell.specs.declared.refusal.CellRefusal.TheVariants.{TooShort, N
 use Rattle.dted_cell.specs.Field.{number_at, is_number, spells, word_at}
 use Rattle.dted_cell.specs.Lead.{lead_of, text_of}
 use Rattle.dted_cell.specs.Elevation.{signed_of, is_out_of_range}
-use Rattle.dted_cell.specs.Header.{east, west, north, south, degrees_north, square_at, level_of_interval, level_at, series_of}
+use Rattle.dted_cell.specs.Header.{east, west, north, south, is_whole, degrees_north, square_at, level_of_interval, level_at, series_of}
 use Rattle.dted_cell.specs.Record.{record_at, elevation_at, longitude_count, stated_sum, plain_sum}
 
 -- a refusal, standing where its condition holds
@@ -37,29 +37,29 @@ is_degrees text from to most = is_number text from to && nat_le (number_at text 
 abbrev pub is_letter : List ℕ → ℕ → ℕ → ℕ → Bool
 is_letter text at one other = slice_index text at == one || slice_index text at == other
 
--- each number field and each hemisphere
-abbrev pub field_conditions : List ℕ → List (Option CellRefusal)
-field_conditions text =
-    (BadField 4 when not (is_degrees text 4 7 180)) ∷
-    (BadField 7 when not (is_number text 7 9)) ∷
-    (BadField 9 when not (is_number text 9 11)) ∷
-    (BadField 11 when not (is_letter text 11 east west)) ∷
-    (BadField 12 when not (is_degrees text 12 15 90)) ∷
-    (BadField 15 when not (is_number text 15 17)) ∷
-    (BadField 17 when not (is_number text 17 19)) ∷
-    (BadField 19 when not (is_letter text 19 north south)) ∷
+-- an angle's fields: degrees, minutes, seconds and the hemisphere's letter
+unfoldable pub angle_conditions : List ℕ → ℕ → ℕ → ℕ → ℕ → List (Option CellRefusal)
+angle_conditions text at most one other =
+    (BadField at when not (is_degrees text at (at + 3) most)) ∷
+    (BadField (at + 3) when not (is_number text (at + 3) (at + 5))) ∷
+    (BadField (at + 5) when not (is_number text (at + 5) (at + 7))) ∷
+    (BadField (at + 7) when not (is_letter text (at + 7) one other)) ∷ []
+
+-- the intervals and the counts
+unfoldable pub lattice_conditions : List ℕ → List (Option CellRefusal)
+lattice_conditions text =
     (BadField 20 when not (is_number text 20 24)) ∷
     (BadField 24 when not (is_number text 24 28)) ∷
     (BadField 47 when not (is_number text 47 51)) ∷
     (BadField 51 when not (is_number text 51 55)) ∷ []
 
--- the origin's minutes and seconds are 0
-abbrev pub is_whole : List ℕ → Bool
-is_whole text = number_at text 7 9 == 0 && number_at text 9 11 == 0 && number_at text 15 17 == 0 && number_at text 17 19 == 0
+-- the longitude at 4, 7, 9 and 11, the latitude at 12, 15, 17 and 19, then the rest
+unfoldable pub field_conditions : List ℕ → List (Option CellRefusal)
+field_conditions text = angle_conditions text 4 180 east west ++ angle_conditions text 12 90 north south ++ lattice_conditions text
 
 -- the origin is no corner of a square
 abbrev pub is_off_degree : List ℕ → Bool
-is_off_degree text = not (is_whole text) || degrees_north text == 180
+is_off_degree text = not (is_whole text 4 && is_whole text 12) || degrees_north text == 180
 
 -- the latitude interval is no level's, or the longitude interval is not that of its level and zone
 abbrev pub has_wrong_spacing : List ℕ → Bool
@@ -71,24 +71,29 @@ abbrev pub has_wrong_counts : List ℕ → Bool
 has_wrong_counts text =
     not (number_at text 47 51 == columns_of (square_at text) (level_at text)) || not (number_at text 51 55 == rows_of (level_at text))
 
-abbrev pub shape_conditions : List ℕ → List (Option CellRefusal)
+unfoldable pub shape_conditions : List ℕ → List (Option CellRefusal)
 shape_conditions text =
     (OffDegree when is_off_degree text) ∷
     (WrongSpacing when has_wrong_spacing text) ∷
     (WrongCounts when has_wrong_counts text) ∷ []
 
-abbrev pub label_conditions : List ℕ → List (Option CellRefusal)
+unfoldable pub label_conditions : List ℕ → List (Option CellRefusal)
 label_conditions text =
     (NoDsi when not (spells text 80 (codes "DSI"))) ∷
     (SeriesDisagrees when not (spells text 139 (series_of (level_at text)))) ∷
     (NotWgs84 when not (spells text 224 (codes "WGS84"))) ∷
     (NoAcc when not (spells text 728 (codes "ACC"))) ∷ []
 
+-- the text's
+unfoldable pub text_conditions : List ℕ → List (Option CellRefusal)
+text_conditions text =
+    (NoUhl when not (spells text 0 (codes "UHL1"))) ∷
+    field_conditions text ++ shape_conditions text ++ label_conditions text
+
 unfoldable pub header_conditions : List ℕ → List (Option CellRefusal)
 header_conditions bytes =
     (TooShort (lead_of bytes + 3428) (length bytes) when is_shorter bytes 3428) ∷
-    (NoUhl when not (spells (text_of bytes) 0 (codes "UHL1"))) ∷
-    field_conditions (text_of bytes) ++ shape_conditions (text_of bytes) ++ label_conditions (text_of bytes)
+    text_conditions (text_of bytes)
 
 -- ---- the data's conditions
 

@@ -1,0 +1,5 @@
+pub mod First
+pub mod Headers
+pub mod Leads
+pub mod Shapes
+pub mod Squares
