@@ -1,5 +1,5 @@
 -- A whole cell: a file of DTED (MIL-PRF-89020), by positions and as what is read of it.
-use Rattle.std.specs.Prelude.{◌≡◌, ℕ, ℤ, ◌+◌, ◌<◌, ◌≤◌, ◌≤ℤ◌, Bool, true, false, List, [], length, map, fold, sum_by, count_by, slice_range, slice_index_or, Option, Some, None}
+use Rattle.std.specs.Prelude.{◌≡◌, ℕ, ℤ, ◌+◌, ◌*◌, ◌<◌, ◌≤◌, ◌≤ℤ◌, Bool, true, false, List, [], length, map, fold, sum_by, count_by, slice_range, slice_index_or, Option, Some, None}
 use Rattle.std.specs.List.{range_with_len}
 use Rattle.std.specs.Int.{int_min, int_max}
 use Rattle.terrain_base.specs.declared.square.Square.{Square}
@@ -29,6 +29,10 @@ pub record IsCell (bytes : List ℕ) (square : Square) (level : CellLevel) (post
   pub records : (col : ℕ) → col < columns_of square level → IsRecord (text_of bytes) (rows_of level) col
   pub at_places : HasPosts (text_of bytes) (columns_of square level) (rows_of level) posts
 
+-- the file is a cell
+abbrev pub IsSomeCell : List ℕ → Type 0
+IsSomeCell bytes = (square : Square) × (level : CellLevel) × (posts : List (List Post)) × IsCell bytes square level posts
+
 -- ---- what is read
 
 unfoldable pub square_in : List ℕ → Square
@@ -50,6 +54,10 @@ post_in bytes col row = post_of (word_at (text_of bytes) (elevation_at (rows_in 
 -- the elevations of a column, two bytes each, as they stand
 unfoldable pub profile_in : List ℕ → ℕ → List ℕ
 profile_in bytes col = slice_range (text_of bytes) (elevation_at (rows_in bytes) col 0) (elevation_at (rows_in bytes) col (rows_in bytes))
+
+-- the post of a row in a column's elevations
+abbrev pub post_of_row : List ℕ → ℕ → Post
+post_of_row elevations row = post_of (word_at elevations (2 * row))
 
 -- the posts of a column, from the south on
 abbrev pub column_in : List ℕ → ℕ → List Post

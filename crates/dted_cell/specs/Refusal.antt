@@ -11,6 +11,7 @@ use Rattle.dted_cell.specs.Field.{number_at, is_number, spells, word_at}
 use Rattle.dted_cell.specs.Lead.{lead_of, text_of}
 use Rattle.dted_cell.specs.Elevation.{signed_of, is_out_of_range}
 use Rattle.dted_cell.specs.Header.{east, west, north, south, is_whole, degrees_north, square_at, level_of_interval, level_at, series_of}
+use Rattle.dted_cell.specs.Cell.{columns_in, rows_in}
 use Rattle.dted_cell.specs.Record.{record_at, elevation_at, longitude_count, stated_sum, plain_sum}
 
 -- a refusal, standing where its condition holds
@@ -112,7 +113,7 @@ record_conditions text rows col =
     map (height_condition text rows col) (range_with_len 0 rows)
 
 -- the file ends before its last record does; then record by record, from the west on
-abbrev pub data_conditions : List ℕ → ℕ → ℕ → List (Option CellRefusal)
+unfoldable pub data_conditions : List ℕ → ℕ → ℕ → List (Option CellRefusal)
 data_conditions bytes columns rows =
     (TooShort (lead_of bytes + record_at rows columns) (length bytes) when is_shorter bytes (record_at rows columns)) ∷
     flat_map (record_conditions (text_of bytes) rows) (range_with_len 0 columns)
@@ -120,10 +121,7 @@ data_conditions bytes columns rows =
 -- ---- all of them, in order
 
 unfoldable pub conditions_of : List ℕ → List (Option CellRefusal)
-conditions_of bytes =
-    let square = square_at (text_of bytes) in
-    let level = level_at (text_of bytes) in
-    header_conditions bytes ++ data_conditions bytes (columns_of square level) (rows_of level)
+conditions_of bytes = header_conditions bytes ++ data_conditions bytes (columns_in bytes) (rows_in bytes)
 
 -- the refusal of a file, and none where it is a cell
 unfoldable pub refusal_of : List ℕ → Option CellRefusal

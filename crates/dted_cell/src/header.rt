@@ -157,6 +157,7 @@ fn read_text(text: &[u8]) -> Result<Shape, CellRefusal>
 pub(crate) fn read_header(bytes: &[u8]) -> Result<Header, CellRefusal>
     ensures refusal { result_err result ≡ first_of (header_conditions bytes.now) }
     ensures says { IfOk result (SaysHeader bytes.now) }
+    ensures long { IfOk result (λ header. header.lead + 3428 ≤ length bytes.now) }
 {
     let lead = lead(bytes);
     if bytes.len() < lead + HEADER_LENGTH {
