@@ -6,5 +6,6 @@ pub mod Quotients
 pub mod Runs
 pub mod SquareTexts
 pub mod Stops
+pub mod StoreMeanings
 pub mod SureFiles
 pub mod TileNumbers

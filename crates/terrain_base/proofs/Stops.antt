@@ -25,7 +25,7 @@ neither : (a b c : Bool) → (a || b) ≡ false → (b ≡ false → c ≡ false
 neither true b c e h = e
 neither false b c e h = h e
 
-missed : (q : Key) (n : ℕ) (names : List Key) → is_among q names ≡ false → is_among q (take n names) ≡ false
+pub missed : (q : Key) (n : ℕ) (names : List Key) → is_among q names ≡ false → is_among q (take n names) ≡ false
 missed q zero names e = refl
 missed q (suc n) [] e = refl
 missed q (suc n) (name ∷ names) e = neither (eq_by_cmp by_text q name) (is_among q names) (is_among q (take n names)) e (missed q n names)

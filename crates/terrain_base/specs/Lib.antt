@@ -16,6 +16,7 @@ pub mod Run
 pub mod Sink
 pub mod SquareText
 pub mod Step
+pub mod StoreLaws
 pub mod SureStore
 pub mod Text
 pub mod Work
