@@ -1,5 +1,6 @@
 -- The divisors of 32767 = 7 * 31 * 151 are 1, 7, 31, 151, 217, 1057, 4681 and 32767.
-use Rattle.std.proofs.Common.{◌≡◌, ℕ, zero, suc, Bool, true, false, nat_eq, cond, ◌+◌, ◌-◌, ◌*◌, ◌/◌, ◌%◌, ◌<◌, ◌≤◌}
+use Rattle.std.proofs.Common.{◌≡◌, ℕ, zero, suc, ◌+◌, ◌-◌, ◌*◌, ◌/◌, ◌%◌, ◌<◌, ◌≤◌}
+use Rattle.std.proofs.Common.{Bool, true, false, nat_eq, cond}
 use Rattle.std.proofs.Common.{refl, ap, sym, ◌∙◌, inl, inr, arith, subst}
 use Rattle.std.specs.Int.{◌∣◌}
 use Rattle.std.proofs.Math.Nat.{mul-le-mul, div-mul_cancel, dvd-mul_right, pos_of_dvd_of_pos}
@@ -56,7 +57,8 @@ cofactor_divides : (r : ℕ) → r ∣ 32767 → (32767 / r) ∣ 32767
 cofactor_divides r d = subst (λ (n : ℕ). (32767 / r) ∣ n) (div-mul_cancel r d) (dvd-mul_right (32767 / r) r)
 
 -- the same for the greater divisors, whose other factors lie in a gap
-from_cofactor : (lo n start hi r : ℕ) → none_divide lo n ≡ true → 32767 < start * (lo + n) → (lo - 1) * (hi - 1) < 32767 →
+from_cofactor : (lo n start hi r : ℕ) → none_divide lo n ≡ true →
+    32767 < start * (lo + n) → (lo - 1) * (hi - 1) < 32767 →
     r ∣ 32767 → start ≤ r → hi ≤ r
 from_cofactor lo n start hi r e above below d low =
     let k = 32767 / r in
@@ -69,7 +71,8 @@ from_cofactor lo n start hi r e above below d low =
             let r_small : r ≤ hi - 1 = omega arith in
             absurd (omega (arith, whole, below, mul-le-mul k_small r_small))
         | inr enough ↦ elim (cases_lt k (lo + n)) [
-          | inl inside ↦ absurd (no_divisor lo n k e enough inside (mod-eq-zero_of_dvd k (cofactor_divides r d)))
+          | inl inside ↦
+              absurd (no_divisor lo n k e enough inside (mod-eq-zero_of_dvd k (cofactor_divides r d)))
           | inr beyond ↦ absurd (omega (arith, whole, above, mul-le-mul low beyond))
         ]
       ]

@@ -2,8 +2,9 @@ use Rattle.std.specs.Prelude.{◌≡◌, ℕ, ℤ, pos, ◌+ℤ◌, ◌≤ℤ◌
 use Rattle.std.specs.Int.{◌∣◌}
 use Rattle.height_lattice.specs.declared.height_frame.HeightFrame.{HeightFrame}
 
--- the frame of the heights from least to greatest, in metres: it begins at the least height, and its range is the
--- least divisor of 32767, the greatest height code of quantized-mesh-1.0 ("Vertex Data"), that reaches the greatest
+-- the frame of the heights from least to greatest, in metres: it begins at the least height, and its range is
+-- the least divisor of 32767 that reaches the greatest (32767 is the greatest height code of quantized-mesh-1.0,
+-- "Vertex Data")
 pub record IsFrame (least greatest : ℤ) (frame : HeightFrame) : Type 0 where
   pub base : frame.base ≡ least
   pub divides : frame.range ∣ 32767

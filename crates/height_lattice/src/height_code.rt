@@ -5,6 +5,9 @@ ghost use Rattle.height_lattice.specs.HeightFrame.{IsWithin};
 
 use crate::height_frame::HeightFrame;
 
+/// The greatest height code (quantized-mesh-1.0, "Vertex Data").
+const GREATEST_CODE: u16 = 32767;
+
 /// How many metres a height lies above the frame's base.
 fn metres_above_base(frame: &HeightFrame, metres: i16) -> u16
     requires { IsWithin frame.now metres }
@@ -23,7 +26,7 @@ pub fn code(frame: &HeightFrame, metres: i16) -> u16
     ensures product { pos result ≡ (metres -ℤ frame.now.base) *ℤ pos (codes_per_metre frame.now) }
     ensures bound { result ≤ 32767 }
 {
-    metres_above_base(frame, metres) * (32767 / frame.range)
+    metres_above_base(frame, metres) * (GREATEST_CODE / frame.range)
 }
 
 /// The height of a code, in metres: `metres` of the `code` of a height is that height.
@@ -36,8 +39,11 @@ pub fn metres(frame: &HeightFrame, code: u16) -> Option<i32>
     ensures none { IfNone result (code ≤ 32767 → ¬ (codes_per_metre frame.now ∣ code)) }
     ensures inverse { (m : ℤ) → IsWithin frame.now m → IsCode frame.now m code → result ≡ Some m }
 {
-    let codes_per_metre = 32767 / frame.range;
-    if code > 32767 || code % codes_per_metre != 0 {
+    let codes_per_metre = GREATEST_CODE / frame.range;
+    if code > GREATEST_CODE {
+        return None;
+    }
+    if code % codes_per_metre != 0 {
         return None;
     }
     Some(frame.base as i32 + (code / codes_per_metre) as i32)

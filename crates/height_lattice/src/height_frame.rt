@@ -32,7 +32,7 @@ fn least_divisor(metres: u16) -> u16
 
 /// The frame of the heights from `least` to `greatest`, both in metres and from -16000 to 16000.
 ///
-/// Its range is a divisor of 32767, so that each metre has a code and the codes of two frames agree to the metre.
+/// Its range divides 32767, so that each whole metre of it has a code that stands for exactly that height.
 pub fn frame(least: i16, greatest: i16) -> HeightFrame
     requires order { least ≤ℤ greatest }
     requires low { neg_ℤ (pos 16000) ≤ℤ least }

@@ -1,4 +1,4 @@
-//! Heights in whole metres as the height codes of quantized-mesh-1.0, exactly: each metre takes a whole number of codes.
+//! Heights in whole metres as height codes of quantized-mesh-1.0, exactly: a metre takes a whole number of codes.
 #![tactic(auto)]
 
 mod height_code;

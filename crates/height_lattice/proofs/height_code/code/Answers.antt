@@ -8,5 +8,5 @@ nonzero_div-result c = range_above c.args.frame.now.range c.requires.divisor
 
 pub returns-clause-place : goal.returns-clause-place
 returns-clause-place c =
-    let range = c.args.frame.now.range in
-    omega (arith, ints, c.metres_above_base.ensures, product c.metres_above_base.result range c.requires.divisor)
+    let scaled = product c.metres_above_base.result c.args.frame.now.range c.requires.divisor in
+    omega (arith, ints, c.metres_above_base.ensures, scaled)

@@ -1,9 +1,9 @@
-use Rattle.std.proofs.Common.{◌≡◌, ◌*◌, ◌/◌, ◌%◌, ℤ, Some, ap, sym, ◌∙◌, arith}
+use Rattle.std.proofs.Common.{◌≡◌, ◌/◌, ◌%◌, ℤ, Some, ap, arith}
 use Rattle.std.proofs.lemmas.Int.{ints}
 use Rattle.std.proofs.lemmas.Nat.Gcd.{mod-eq-zero_of_dvd, dvd_of_mod-eq-zero}
-use Rattle.height_lattice.proofs.Codes.{range_above, step_above, code_small, code_divides, quotient_is, code_is}
+use Rattle.height_lattice.proofs.Codes.{range_above, step_above, code_small, code_divides}
+use Rattle.height_lattice.proofs.Codes.{quotient_is, code_is}
 use Rattle.height_lattice.proofs.height_code.metres.Goals as goal
-use Rattle.height_lattice.proofs.height_code.metres.Goals.{then-code-gt32767-via-then-code-gt32767, then-code-gt32767-via-else-code-gt32767+then-code-codes_per_metre-ne0}
 
 pub nonzero_div-codes_per_metre : goal.nonzero_div-codes_per_metre
 nonzero_div-codes_per_metre c = range_above c.args.frame.now.range c.requires
@@ -14,24 +14,19 @@ nonzero_rem-code c = step_above c.args.frame.now.range c.requires
 pub nonzero_div-result : goal.nonzero_div-result
 nonzero_div-result c = step_above c.args.frame.now.range c.requires
 
-pub returns-then-code-gt32767-clause-none : goal.returns-then-code-gt32767-clause-none
-returns-then-code-gt32767-clause-none c = λ small divides.
-    let rest = mod-eq-zero_of_dvd (32767 / c.args.frame.now.range) divides in
-    elim c.then-code-gt32767.branch [
-      | then-code-gt32767-via-then-code-gt32767 w ↦ omega (arith, small, w.if-code-gt32767.true)
-      | then-code-gt32767-via-else-code-gt32767+then-code-codes_per_metre-ne0 w ↦ w.if-code-codes_per_metre-ne0.true rest
-    ]
+pub returns-then-code-gt-GREATEST_CODE-clause-inverse : goal.returns-then-code-gt-GREATEST_CODE-clause-inverse
+returns-then-code-gt-GREATEST_CODE-clause-inverse c = λ m within place.
+    let small = code_small c.args.frame.now m c.args.code c.requires within place in
+    absurd (omega (arith, small))
 
-pub returns-then-code-gt32767-clause-inverse : goal.returns-then-code-gt32767-clause-inverse
-returns-then-code-gt32767-clause-inverse c = λ m within place.
-    let frame = c.args.frame.now in
-    let small = code_small frame m c.args.code c.requires within place in
-    let rest = code_divides frame m c.args.code c.requires within place in
-    elim c.then-code-gt32767.branch [
-      | then-code-gt32767-via-then-code-gt32767 w ↦ absurd (omega (arith, small, w.if-code-gt32767.true))
-      | then-code-gt32767-via-else-code-gt32767+then-code-codes_per_metre-ne0 w ↦
-          absurd (w.if-code-codes_per_metre-ne0.true rest)
-    ]
+pub returns-then-code-codes_per_metre-ne0-clause-none : goal.returns-then-code-codes_per_metre-ne0-clause-none
+returns-then-code-codes_per_metre-ne0-clause-none c = λ small divides.
+    c.if-code-codes_per_metre-ne0.true (mod-eq-zero_of_dvd (32767 / c.args.frame.now.range) divides)
+
+pub returns-then-code-codes_per_metre-ne0-clause-inverse : goal.returns-then-code-codes_per_metre-ne0-clause-inverse
+returns-then-code-codes_per_metre-ne0-clause-inverse c = λ m within place.
+    absurd (c.if-code-codes_per_metre-ne0.true
+    (code_divides c.args.frame.now m c.args.code c.requires within place))
 
 pub returns-clause-some : goal.returns-clause-some
 returns-clause-some c =
@@ -42,6 +37,5 @@ returns-clause-some c =
 
 pub returns-clause-inverse : goal.returns-clause-inverse
 returns-clause-inverse c = λ m within place.
-    let frame = c.args.frame.now in
-    let same = quotient_is frame m c.args.code c.requires within place in
+    let same = quotient_is c.args.frame.now m c.args.code c.requires within place in
     ap (λ (z : ℤ). Some z) (omega (arith, ints, same))

@@ -1,6 +1,7 @@
 use Rattle.std.proofs.Common.{refl, arith}
 use Rattle.std.proofs.lemmas.Nat.Gcd.{dvd_of_mod-eq-zero}
-use Rattle.height_lattice.proofs.Divisors.{from_0, from_2, from_8, from_32, from_152, from_218, from_1058, from_4682}
+use Rattle.height_lattice.proofs.Divisors.{from_0, from_2, from_8, from_32}
+use Rattle.height_lattice.proofs.Divisors.{from_152, from_218, from_1058, from_4682}
 use Rattle.height_lattice.proofs.height_frame.least_divisor.Goals as goal
 
 pub returns-in-0-to-1-clause-divides : goal.returns-in-0-to-1-clause-divides
