@@ -70,7 +70,12 @@ mod tests {
         ];
         for (least, greatest, range) in table {
             assert!(rt; least >= -16000 && least <= greatest && greatest <= 16000);
-            assert_eq!(rt; frame(least, greatest), HeightFrame { base: least, range });
+            let wanted = HeightFrame { range, base: least };
+            assert_eq!(rt;
+                frame(least, greatest),
+                wanted,
+                "from {least} to {greatest}"
+            );
         }
     }
 }
