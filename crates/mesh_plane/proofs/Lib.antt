@@ -12,3 +12,4 @@ pub mod Affine
 pub mod Joins
 pub mod Strips
 pub mod StripProof
+pub mod Sizes

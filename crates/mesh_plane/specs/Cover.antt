@@ -1,7 +1,7 @@
 -- Triangles that cover the square of a tile exactly once.
-use Rattle.std.specs.Prelude.{ℤ, pos, ◌*ℤ◌, ◌≤ℤ◌, ◌<ℤ◌, List, All, Any, AllPairs}
+use Rattle.std.specs.Prelude.{ℤ, pos, ◌≤ℤ◌, List, All, Any, AllPairs}
 use Rattle.mesh_plane.specs.declared.corner.Tri.{Tri}
-use Rattle.mesh_plane.specs.Plane.{IsCounterClockwise, Holds, HoldsStrictly}
+use Rattle.mesh_plane.specs.Plane.{IsCounterClockwise, Holds, HoldsStrictly, IsTilePoint}
 use Rattle.mesh_plane.specs.Surface.{SameHeight}
 
 -- no two triangles at different places of the list hold the point strictly
@@ -11,13 +11,6 @@ HeldOnce s x y ts = AllPairs (λ t u. ¬ (HoldsStrictly s x y t × HoldsStrictly
 -- all triangles that hold the point give it one height by their planes
 abbrev pub OneHeight : ℤ → ℤ → ℤ → List Tri → Type 0
 OneHeight s x y ts = AllPairs (λ t u. Holds s x y t → Holds s x y u → SameHeight s x y t u) ts
-
--- the point (x/s, y/s) lies on the tile, of which both sides are 32767 long
-pub record IsTilePoint (s x y : ℤ) : Type 0 where
-  pub west : pos 0 ≤ℤ x
-  pub east : x ≤ℤ (pos 32767 *ℤ s)
-  pub south : pos 0 ≤ℤ y
-  pub north : y ≤ℤ (pos 32767 *ℤ s)
 
 -- the triangles cover the tile once, with one height at each of its points: at every whole scale from 1 on,
 -- so at every rational point

@@ -39,9 +39,27 @@ pub record HoldsStrictly (s x y : ℤ) (t : Tri) : Type 0 where
   pub bc : pos 0 <ℤ side_of t.b t.c s x y
   pub ca : pos 0 <ℤ side_of t.c t.a s x y
 
--- both coordinates are from 0 to 32767
+-- a scale is from 1 to 2^31
+pub record IsScale (s : ℤ) : Type 0 where
+  pub least : pos 1 ≤ℤ s
+  pub greatest : s ≤ℤ pos 2147483648
+
+-- the point (x/s, y/s) lies on the tile, of which both sides are 32767 long
+pub record IsTilePoint (s x y : ℤ) : Type 0 where
+  pub west : pos 0 ≤ℤ x
+  pub east : x ≤ℤ (pos 32767 *ℤ s)
+  pub south : pos 0 ≤ℤ y
+  pub north : y ≤ℤ (pos 32767 *ℤ s)
+
+-- the corner lies on the tile
 pub record IsOnTile (c : Corner) : Type 0 where
   pub west : pos 0 ≤ℤ c.u
   pub east : c.u ≤ℤ pos 32767
   pub south : pos 0 ≤ℤ c.v
   pub north : c.v ≤ℤ pos 32767
+
+-- all three corners lie on the tile
+pub record IsTileTri (t : Tri) : Type 0 where
+  pub a : IsOnTile t.a
+  pub b : IsOnTile t.b
+  pub c : IsOnTile t.c

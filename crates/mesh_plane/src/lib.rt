@@ -5,5 +5,5 @@ mod corner;
 mod gap;
 pub mod laws;
 
-pub use corner::{Corner, Tri};
-pub use gap::{Gap};
+pub use corner::{Corner, Tri, side, within};
+pub use gap::{Gap, ceil_gap, height_gap};
