@@ -7,3 +7,4 @@ pub mod Refusal
 pub mod Record
 pub mod Cell
 pub mod Good
+pub mod Trouble

@@ -10,8 +10,10 @@ mod lead;
 mod profile;
 mod record;
 mod refusal;
+mod trouble;
 mod view;
 
 pub use profile::ProfileView;
 pub use refusal::CellRefusal;
+pub use trouble::CellTrouble;
 pub use view::CellView;
