@@ -24,3 +24,14 @@ IsAnswer StoreFault = ⊥
 IsAnswer OutputFault = ⊥
 IsAnswer NoMemory = ⊥
 IsAnswer Found = Unit {0}
+
+-- the statuses of a command that was carried out or refused
+abbrev pub IsDoneOrRefused : Status → Type 0
+IsDoneOrRefused Done = Unit {0}
+IsDoneOrRefused Refused = Unit {0}
+IsDoneOrRefused Usage = ⊥
+IsDoneOrRefused InputFault = ⊥
+IsDoneOrRefused StoreFault = ⊥
+IsDoneOrRefused OutputFault = ⊥
+IsDoneOrRefused NoMemory = ⊥
+IsDoneOrRefused Found = ⊥

@@ -5,7 +5,7 @@ ghost use Rattle.terrain_base.specs.Cause.{Rose};
 ghost use Rattle.terrain_base.specs.Library.{Fetches};
 ghost use Rattle.terrain_top.specs.Reply.{Says, StopHasCause};
 ghost use Rattle.terrain_top.specs.Cell.{cell_reply, read_reply};
-ghost use Rattle.terrain_top.specs.Status.{IsAnswer};
+ghost use Rattle.terrain_top.specs.Status.{IsDoneOrRefused};
 
 use crate::answer::Answer;
 use crate::stop::Stop;
@@ -34,6 +34,7 @@ fn fetch<Li: Library>(files: &mut Li, file: &str) -> Result<Fetched, Stop>
 // What the bytes of a file come to.
 fn read_cell(alloc: Global, bytes: &[u8]) -> Result<Answer, Stop>
     ensures reply { IfOk result (Says (read_reply bytes.now)) }
+    ensures status { IfOk result (λ answer. IsDoneOrRefused answer.status) }
     ensures stop { ¬ IsErrOf result Stop.Input }
 {
     match CellView::read(bytes) {
@@ -53,7 +54,7 @@ fn read_cell(alloc: Global, bytes: &[u8]) -> Result<Answer, Stop>
 /// Reads the cell of a file and says what it is, or why it is refused.
 pub(crate) fn answer_to_cell<Li: Library>(alloc: Global, files: &mut Li, file: &str) -> Result<Answer, Stop>
     ensures reply { IfOk result (λ answer. IfSome (Li.holds files.old) (λ held. Says (cell_reply file.now (map.get held file.now)) answer)) }
-    ensures answers { IfOk result (λ answer. IsAnswer answer.status) }
+    ensures status { IfOk result (λ answer. IsDoneOrRefused answer.status) }
     ensures same { Li.holds files.new ≡ Li.holds files.old }
     ensures cause { StopHasCause (Li.faults files.old) (Li.faults files.new) result }
 {

@@ -1,5 +1,5 @@
 // The call that does all that the program does.
-ghost use Rattle.std.specs.Prelude.{◌≡◌, IfOk, IfSome, IsSome, Some, ◌++◌, map, string_bytes};
+ghost use Rattle.std.specs.Prelude.{◌≡◌, ◌≢◌, ◌↔◌, IfOk, IfSome, IsSome, IsNone, IsErrOf, Some, ◌++◌, map, string_bytes};
 ghost use Rattle.terrain_base.specs.Cause.{Rose};
 ghost use Rattle.terrain_base.specs.Sink.{IsFront};
 ghost use Rattle.terrain_top.specs.Reply.{Says, StopHasCause};
@@ -18,7 +18,9 @@ use terrain_base::{DeviceFault, Library, Sink, Store, Work};
 // What the words come to, before anything is printed.
 fn answer_to<Li: Library>(alloc: Global, words: &[String], files: &mut Li) -> Result<Answer, Stop>
     ensures reply { IfOk result (λ answer. IfSome (Li.holds files.old) (λ held. Says (reply_to (map string_bytes words.now) held) answer)) }
-    ensures answers { IfOk result (λ answer. IsAnswer answer.status) }
+    ensures answers { IfOk result (λ answer. IsAnswer answer.status × (answer.status ≢ Status.Found)) }
+    ensures usage { IfOk result (λ answer. (answer.status ≡ Status.Usage) ↔ IsNone (command_of (map string_bytes words.now))) }
+    ensures input { IsErrOf result Stop.Input → IsSome (command_of (map string_bytes words.now)) }
     ensures same { Li.holds files.new ≡ Li.holds files.old }
     ensures cause { StopHasCause (Li.faults files.old) (Li.faults files.new) result }
 {
@@ -49,9 +51,17 @@ pub fn run<St: Store, Li: Library, Si: Sink>(
     // Whatever stopped it, the sink took no more than some first bytes of that text.
     ensures front { IfSome (Li.holds files.old) (λ held. IfSome (Si.taken out.old) (λ taken. IsFront taken (reply_to (map string_bytes words.now) held).text (Si.taken out.new))) }
 
+    // 'Usage' is the answer exactly where the words are no command.
+    ensures usage { IsAnswer result → ((result ≡ Status.Usage) ↔ IsNone (command_of (map string_bytes words.now))) }
+
     // A fault comes only where its count rose; no file is asked for where the words are no command.
     ensures input { result ≡ Status.InputFault → Rose (Li.faults files.old) (Li.faults files.new) × IsSome (command_of (map string_bytes words.now)) }
     ensures output { result ≡ Status.OutputFault → Rose (Si.faults out.old) (Si.faults out.new) }
+
+    // No command so far touches the store, makes a tile or finds something amiss.
+    ensures store { (St.holds store.new ≡ St.holds store.old) × (St.log store.new ≡ St.log store.old) × (St.faults store.new ≡ St.faults store.old) }
+    ensures work { work.new ≡ work.old }
+    ensures never { (result ≢ Status.StoreFault) × (result ≢ Status.Found) }
 {
     let _ = (store, work);
     let answer = match answer_to(alloc, words, files) {
