@@ -6,6 +6,7 @@ mod elevation;
 mod field;
 mod fields;
 mod header;
+pub mod laws;
 mod lead;
 mod profile;
 mod record;
