@@ -46,7 +46,7 @@ pub floor_is : (a b : ℤ) → pos 0 <ℤ b → IsFloor a b (floor_of a b)
 unfolding floor_of
 floor_is a b p = euclid_floor a b p
 
-neg_mul : (a b : ℤ) → neg_ℤ a *ℤ b ≡ neg_ℤ (a *ℤ b)
+pub neg_mul : (a b : ℤ) → neg_ℤ a *ℤ b ≡ neg_ℤ (a *ℤ b)
 neg_mul (pos zero) b = omega (arith, ints)
 neg_mul (pos (suc n)) b = omega (arith, ints)
 neg_mul (negsuc n) b = omega (arith, ints)
