@@ -2,5 +2,10 @@
 #![tactic(auto)]
 
 mod interval;
+mod sine_cosine;
 
 pub use interval::{Interval, add, div_pos, div_whole, mul, sqrt, sub};
+pub use sine_cosine::{SineCosine, half_turn};
+
+#[cfg(test)]
+mod tests;
