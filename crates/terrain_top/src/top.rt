@@ -63,7 +63,6 @@ pub fn run<St: Store, Li: Library, Si: Sink>(
     ensures work { work.new ≡ work.old }
     ensures never { (result ≢ Status.StoreFault) × (result ≢ Status.Found) }
 {
-    let _ = (store, work);
     let answer = match answer_to(alloc, words, files) {
         Ok(answer) => answer,
         Err(Stop::Input) => return Status::InputFault,
