@@ -8,6 +8,7 @@ use std::rt::Files;
 use terrain_base::{DeviceFault, Fetched, Library};
 
 /// Real files, by their paths. It tells nothing of what it holds, and counts its faults.
+#[derive(Drop)]
 pub struct FolderLibrary<'a, R> {
     rt: &'a R,
     faults: u64,
@@ -15,7 +16,9 @@ pub struct FolderLibrary<'a, R> {
 
 impl<'a, R: Files + AllocGlobal> FolderLibrary<'a, R> {
     /// A library over the runtime's files that did not fail yet.
-    pub fn new(rt: &'a R) -> FolderLibrary<'a, R> {
+    pub fn new(rt: &'a R) -> FolderLibrary<'a, R>
+        ensures { ⟦<FolderLibrary<'a, R> as Library>⟧.faults result ≡ 0 }
+    {
         FolderLibrary { rt, faults: 0 }
     }
 }

@@ -6,6 +6,7 @@ use std::io::{self, Write};
 use terrain_base::{DeviceFault, Sink};
 
 /// Standard output. It tells nothing of what it took, and counts its faults.
+#[derive(Drop)]
 pub struct StdSink<'a, R> {
     rt: &'a R,
     faults: u64,
@@ -13,7 +14,9 @@ pub struct StdSink<'a, R> {
 
 impl<'a, R: Print> StdSink<'a, R> {
     /// A sink over the runtime's output that did not fail yet.
-    pub fn new(rt: &'a R) -> StdSink<'a, R> {
+    pub fn new(rt: &'a R) -> StdSink<'a, R>
+        ensures { ⟦<StdSink<'a, R> as Sink>⟧.faults result ≡ 0 }
+    {
         StdSink { rt, faults: 0 }
     }
 }
