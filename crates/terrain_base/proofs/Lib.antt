@@ -4,6 +4,7 @@ pub mod NameTexts
 pub mod Overwrites
 pub mod Quotients
 pub mod Runs
+pub mod SquareOrder
 pub mod SquareTexts
 pub mod Stops
 pub mod StoreMeanings

@@ -46,7 +46,7 @@ pub floor_is : (a b : ℤ) → pos 0 <ℤ b → IsFloor a b (floor_of a b)
 unfolding floor_of
 floor_is a b p = euclid_floor a b p
 
-neg_mul : (a b : ℤ) → neg_ℤ a *ℤ b ≡ neg_ℤ (a *ℤ b)
+pub neg_mul : (a b : ℤ) → neg_ℤ a *ℤ b ≡ neg_ℤ (a *ℤ b)
 neg_mul (pos zero) b = omega (arith, ints)
 neg_mul (pos (suc n)) b = omega (arith, ints)
 neg_mul (negsuc n) b = omega (arith, ints)
@@ -62,7 +62,7 @@ unfolding ceil_of
 ceil_is a b p = ceil_from a b (int_div_euclid (neg_ℤ a) b) (euclid_floor (neg_ℤ a) b p)
 
 -- the greater of two whole quotients is at least one more of b
-apart : (n : ℕ) (q r : ℤ) → q <ℤ r → ((q *ℤ pos n) +ℤ pos n) ≤ℤ (r *ℤ pos n)
+pub apart : (n : ℕ) (q r : ℤ) → q <ℤ r → ((q *ℤ pos n) +ℤ pos n) ≤ℤ (r *ℤ pos n)
 apart n q r h = omega (arith, ints, mul_next q (pos n), mul_mono n (q +ℤ pos 1) r (omega (arith, ints, h)))
 
 floor_not_below : (a : ℤ) (n : ℕ) (q r : ℤ) → IsFloor a (pos n) q → IsFloor a (pos n) r → r ≤ℤ q

@@ -14,6 +14,7 @@ pub mod NameParts
 pub mod Overwrite
 pub mod Run
 pub mod Sink
+pub mod SquareOrder
 pub mod SquareText
 pub mod Step
 pub mod StoreLaws

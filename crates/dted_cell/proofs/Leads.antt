@@ -1,0 +1,24 @@
+-- How long the lead may be.
+use Rattle.std.proofs.Common.{◌≡◌, ℕ, zero, suc, ◌+◌, ◌*◌, ◌<◌, ◌≤◌, Bool, true, ◌&&◌, nat_le, List, length, get_or, refl, sym, ◌∙◌, ap, arith, codes}
+use Rattle.std.proofs.lemmas.Bool.Decides.{nat_tests}
+use Rattle.std.proofs.lemmas.List.FromFn.{length-range_with_len, get_or-range_with_len}
+use Rattle.std.proofs.lemmas.List.Sums.{prefix_len_passes, prefix_len-le-length}
+use Rattle.std.specs.List.{prefix_len, range_with_len}
+use Rattle.dted_cell.specs.Field.{spells}
+use Rattle.dted_cell.specs.Lead.{is_label, lead_of}
+
+label_fits : (n m : ℕ) (b : Bool) → (nat_le n m && b) ≡ true → n ≤ m
+label_fits n m b e = grind (arith, nat_tests)
+
+labels_fit : (bytes : List ℕ) (n : ℕ) → prefix_len (is_label bytes) (range_with_len 0 4) ≡ n → 80 * n ≤ length bytes
+labels_fit bytes zero e = omega arith
+labels_fit bytes (suc m) e =
+    let few : prefix_len (is_label bytes) (range_with_len 0 4) ≤ 4 = prefix_len-le-length (is_label bytes) (range_with_len 0 4) in
+    let last = prefix_len_passes (is_label bytes) (range_with_len 0 4) m 0 (omega arith) in
+    let at : get_or (range_with_len 0 4) m 0 ≡ m = get_or-range_with_len 0 4 m 0 (omega arith) ∙ omega arith in
+    let passes : is_label bytes m ≡ true = sym (ap (is_label bytes) at) ∙ last in
+    omega (arith, label_fits (80 * m + 80) (length bytes) _ passes)
+
+pub lead_within : (bytes : List ℕ) → lead_of bytes ≤ length bytes
+unfolding lead_of
+lead_within bytes = labels_fit bytes _ refl

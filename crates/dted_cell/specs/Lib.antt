@@ -1,0 +1,10 @@
+pub mod Field
+pub mod Lead
+pub mod Elevation
+pub mod Header
+pub mod Fields
+pub mod Refusal
+pub mod Record
+pub mod Cell
+pub mod Good
+pub mod Trouble

@@ -1,0 +1,29 @@
+-- The data records of a cell, one for each meridian from west to east (MIL-PRF-89020, data record).
+use Rattle.std.specs.Prelude.{◌≡◌, ℕ, ◌+◌, ◌*◌, ◌<◌, List, sum, slice_index, slice_range}
+use Rattle.dted_cell.specs.Field.{word_at, long_at}
+use Rattle.dted_cell.specs.Elevation.{IsElevation}
+
+-- where the record of a column begins: behind a header of 3428 bytes, each record has 8 bytes, two for each row, and 4 of checksum
+abbrev pub record_at : ℕ → ℕ → ℕ
+record_at rows col = 3428 + col * (12 + 2 * rows)
+
+-- where the elevation of a row stands, the southernmost first
+abbrev pub elevation_at : ℕ → ℕ → ℕ → ℕ
+elevation_at rows col row = record_at rows col + 8 + 2 * row
+
+-- the longitude count, the checksum that the record states, and the sum of the bytes before it
+abbrev pub longitude_count : List ℕ → ℕ → ℕ → ℕ
+longitude_count text rows col = word_at text (record_at rows col + 4)
+
+abbrev pub stated_sum : List ℕ → ℕ → ℕ → ℕ
+stated_sum text rows col = long_at text (elevation_at rows col rows)
+
+abbrev pub plain_sum : List ℕ → ℕ → ℕ → ℕ
+plain_sum text rows col = sum (slice_range text (record_at rows col) (elevation_at rows col rows))
+
+-- the record of a column is good
+pub record IsRecord (text : List ℕ) (rows col : ℕ) : Type 0 where
+  pub sentinel : slice_index text (record_at rows col) ≡ 170
+  pub column : longitude_count text rows col ≡ col
+  pub checksum : stated_sum text rows col ≡ plain_sum text rows col
+  pub heights : (row : ℕ) → row < rows → IsElevation (word_at text (elevation_at rows col row))

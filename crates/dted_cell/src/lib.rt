@@ -1,0 +1,20 @@
+//! Cells of DTED levels 0 to 2, read where their bytes lie (MIL-PRF-89020).
+#![tactic(auto)]
+
+mod cell;
+mod elevation;
+mod field;
+mod fields;
+mod header;
+pub mod laws;
+mod lead;
+mod profile;
+mod record;
+mod refusal;
+mod trouble;
+mod view;
+
+pub use profile::ProfileView;
+pub use refusal::CellRefusal;
+pub use trouble::CellTrouble;
+pub use view::CellView;

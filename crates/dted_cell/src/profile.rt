@@ -1,0 +1,56 @@
+// A column of a cell.
+ghost use Rattle.std.specs.Prelude.{◌≡◌, ◌+◌, ◌*◌, ◌≤◌, length};
+ghost use Rattle.dted_cell.specs.Cell.{post_of_row, is_void_post};
+
+use std::marker::Model;
+use terrain_base::Post;
+
+use crate::elevation::{VOID, post};
+use crate::field::word;
+
+/// The elevations of a column, where they lie. It is seen as their bytes: two for each row, from the
+/// south on, a sign bit and 15 bits of metres, the highest first.
+#[derive(Drop)]
+pub struct ProfileView<'a> {
+    elevations: &'a [u8],
+}
+
+impl<'a> Model for ProfileView<'a> {
+    ghost use Rattle.std.specs.Prelude.{List, ℕ};
+
+    ghost Value = { List ℕ };
+
+    ghost view = { λ p. p.elevations.now };
+}
+
+impl<'a> ProfileView<'a> {
+    /// The view of elevations.
+    pub(crate) fn of(elevations: &'a [u8]) -> ProfileView<'a>
+        ensures { result ≡ elevations.now }
+    {
+        ProfileView { elevations }
+    }
+
+    /// The post of a row.
+    pub fn post(&self, row: u16) -> Post
+        requires { 2 * row + 2 ≤ length self.now }
+        ensures { result ≡ post_of_row self.now row }
+    {
+        post(word(self.elevations, 2 * row as usize))
+    }
+
+    /// Whether the post of a row is void.
+    pub(crate) fn is_void(&self, row: u16) -> bool
+        requires { 2 * row + 2 ≤ length self.now }
+        ensures { result ≡ is_void_post (post_of_row self.now row) }
+    {
+        word(self.elevations, 2 * row as usize) == VOID
+    }
+
+    /// The elevations as they stand in the file.
+    pub fn bytes(&self) -> &[u8]
+        ensures { result.now ≡ self.now }
+    {
+        self.elevations
+    }
+}

@@ -1,0 +1,16 @@
+use Rattle.std.proofs.Common.{◌≡◌, ◌*◌, ◌+◌, ◌/◌, ◌<◌, ◌≤◌, ◌^◌, arith, sym, ◌∙◌, pos}
+use Rattle.std.specs.Int.{div_ceil}
+use Rattle.std.proofs.lemmas.Int.{to_z_pos}
+use mir.Syntax.{w128}
+use mir.Val.{to_z}
+use Rattle.whole_interval.specs.HalfTurn.{pi_low, pi_high}
+use Rattle.whole_interval.proofs.Angle.{angle_is}
+use Rattle.whole_interval.proofs.Sizes.{angle_up_to}
+use Rattle.whole_interval.proofs.sine_cosine.angle.Goals as goal
+
+pub returns : goal.returns
+returns c =
+    let t = c.args.t in
+    let d = c.args.d in
+    let same = angle_is t d c.div_ceil.result c.div_ceil.ensures c.requires.positive c.requires.octant in
+    record { exact = same; size = rw same (angle_up_to t d c.requires.positive c.requires.octant) }
