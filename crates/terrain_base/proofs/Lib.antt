@@ -10,3 +10,4 @@ pub mod Stops
 pub mod StoreMeanings
 pub mod SureFiles
 pub mod TileNumbers
+pub mod TileOrder

@@ -71,11 +71,13 @@ both true true t = (tt, tt)
 both true false t = absurd t
 both false b t = absurd t
 
-below_keys : (name : Key) (es : List (Key × List ℕ)) → T (below_all by_text name es) → AllByRecursion (λ other. by_text name other ≡ Less) (map (λ e. e.0) es)
+below_keys : (name : Key) (es : List (Key × List ℕ)) → T (below_all by_text name es) → AllByRecursion
+    (λ other. by_text name other ≡ Less) (map (λ e. e.0) es)
 below_keys name [] t = tt
 below_keys name (e ∷ es) t = let parts = both (is_lt (by_text name e.0)) (below_all by_text name es) t in (less (by_text name e.0) parts.0, below_keys name es parts.1)
 
-sorted_keys : (es : List (Key × List ℕ)) → T (is_sorted by_text es) → IsStrictlySortedBy by_text (map (λ e. e.0) es)
+sorted_keys : (es : List (Key × List ℕ)) → T (is_sorted by_text es) → IsStrictlySortedBy by_text
+    (map (λ e. e.0) es)
 unfolding IsStrictlySortedBy
 sorted_keys [] t = tt
 sorted_keys (e ∷ es) t = let parts = both (below_all by_text e.0 es) (is_sorted by_text es) t in (below_keys e.0 es parts.0, sorted_keys es parts.1)
@@ -92,7 +94,7 @@ overwrites want names files name = (
 )
 
 pub stops_leave_others : StopsLeaveOthers
-stops_leave_others want names files log log' files' stop name out = outside_stays want names files name stop (not_among name names out)
+stops_leave_others want names files files' log log' stop name out = outside_stays want names files name stop (not_among name names out)
 
 pub stops_log_a_front : StopsLogAFront
 stops_log_a_front steps log files files' log' stop =

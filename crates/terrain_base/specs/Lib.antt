@@ -20,4 +20,5 @@ pub mod Step
 pub mod StoreLaws
 pub mod SureStore
 pub mod Text
+pub mod TileOrder
 pub mod Work

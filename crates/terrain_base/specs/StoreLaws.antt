@@ -31,7 +31,8 @@ NamesAscend = (files : Files) → IsStrictlySortedBy by_text (keys files)
 
 -- steps add their changes to the log, in their order
 abbrev pub StepsAreLogged : Type 0
-StepsAreLogged = (steps : List Step) (log : List Change) → log_after steps (Some log) ≡ Some (log ++ map change_of steps)
+StepsAreLogged = (steps : List Step) (log : List Change)
+    → log_after steps (Some log) ≡ Some (log ++ map change_of steps)
 
 -- names that are overwritten hold what is wanted, and every other name what it held
 abbrev pub Overwrites : Type 0
@@ -41,12 +42,15 @@ Overwrites = (want : Key → Option (List ℕ)) (names : List Key) (files : File
 
 -- a stop while names are overwritten leaves every other name as it was
 abbrev pub StopsLeaveOthers : Type 0
-StopsLeaveOthers = (want : Key → Option (List ℕ)) (names : List Key) (files : Files) (log log' : Option (List Change)) (files' : Option Files)
+StopsLeaveOthers = (want : Key → Option (List ℕ)) (names : List Key) (files : Files)
+    (files' : Option Files) (log log' : Option (List Change))
     → SomeDone (steps_to want names) (Some files) log files' log'
-    → (name : Key) → ¬ (Contains names name) → IfSome files' (λ after. get after name ≡ get files name)
+    → (name : Key) → ¬ (Contains names name)
+    → IfSome files' (λ after. get after name ≡ get files name)
 
 -- a stop leaves a log that grew by the changes of some first steps
 abbrev pub StopsLogAFront : Type 0
-StopsLogAFront = (steps : List Step) (log : List Change) (files files' : Option Files) (log' : Option (List Change))
+StopsLogAFront = (steps : List Step) (log : List Change)
+    (files files' : Option Files) (log' : Option (List Change))
     → SomeDone steps files (Some log) files' log'
     → IfSome log' (λ after. (n : ℕ) × (n ≤ length steps) × (after ≡ log ++ map change_of (take n steps)))

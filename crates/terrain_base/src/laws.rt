@@ -1,7 +1,23 @@
 //! What the definitions that contracts cite come to, in the words of the subject. Each law is what a function
 //! with an empty body ensures.
+ghost use Rattle.std.specs.Prelude.{◌≡◌};
+ghost use Rattle.terrain_base.specs.declared.square.Square.{Square};
+ghost use Rattle.terrain_base.specs.declared.tile.TileId.{TileId};
+ghost use Rattle.terrain_base.specs.SquareOrder.{square_cmp};
+ghost use Rattle.terrain_base.specs.TileOrder.{tile_cmp};
 ghost use Rattle.terrain_base.specs.NameLaws.{SquaresDiffer, NamesDiffer};
-ghost use Rattle.terrain_base.specs.StoreLaws.{PutsOne, DeletesOne, AbsentStays, NamesAscend, StepsAreLogged, Overwrites, StopsLeaveOthers, StopsLogAFront};
+ghost use Rattle.terrain_base.specs.StoreLaws.{PutsOne, DeletesOne, AbsentStays, NamesAscend};
+ghost use Rattle.terrain_base.specs.StoreLaws.{StepsAreLogged, Overwrites, StopsLeaveOthers, StopsLogAFront};
+
+/// Squares are ordered by latitude, then longitude.
+pub fn squares_ascend()
+    ensures { (a b : Square) → ⟦<crate::Square as Ord>⟧.cmp a b ≡ square_cmp a b }
+{}
+
+/// Tiles are ordered by level, then row, then column.
+pub fn tiles_ascend()
+    ensures { (a b : TileId) → ⟦<crate::TileId as Ord>⟧.cmp a b ≡ tile_cmp a b }
+{}
 
 /// Different squares have different texts.
 pub fn squares_differ()
