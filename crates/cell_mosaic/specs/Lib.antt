@@ -1,0 +1,4 @@
+pub mod Blend
+pub mod Cells
+pub mod Fault
+pub mod Source
