@@ -2,12 +2,14 @@
 #![tactic(auto)]
 
 mod blending;
+mod candidate;
 mod corner;
 mod fault;
 mod quad;
 mod source;
 
 pub use blending::blend;
+pub use candidate::{SquareList, candidates};
 pub use fault::SourceFault;
 pub use quad::Quad;
 pub use source::PostSource;
