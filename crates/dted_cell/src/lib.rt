@@ -1,6 +1,7 @@
 //! Cells of DTED levels 0 to 2, read where their bytes lie (MIL-PRF-89020).
 #![tactic(auto)]
 
+mod bytes;
 mod cell;
 mod elevation;
 mod field;
@@ -13,6 +14,7 @@ mod record;
 mod refusal;
 mod view;
 
+pub use bytes::{CellBytes, RefusedCell};
 pub use profile::ProfileView;
 pub use refusal::CellRefusal;
 pub use view::CellView;
