@@ -1,7 +1,14 @@
 pub mod Cells
+pub mod Counts
+pub mod Extremes
 pub mod First
+pub mod HeaderLaws
 pub mod Headers
+pub mod WholeCells
 pub mod Leads
+pub mod Origins
+pub mod RecordLaws
 pub mod Shapes
 pub mod Squares
+pub mod Stands
 pub mod Views

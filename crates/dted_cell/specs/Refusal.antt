@@ -1,5 +1,5 @@
 -- Which refusal a file gets: the first whose condition holds, in the order below.
-use Rattle.std.specs.Prelude.{ℕ, ◌+◌, ◌*◌, ◌==◌, nat_lt, nat_le, Bool, not, ◌&&◌, ◌||◌, List, [], ◌∷◌, ◌++◌, length, map, flat_map, codes, slice_index, Option, Some, None, is_some, if◌then◌else◌}
+use Rattle.std.specs.Prelude.{◌≡◌, ℕ, All, IsNone, ◌+◌, ◌*◌, ◌==◌, nat_lt, nat_le, Bool, not, ◌&&◌, ◌||◌, List, [], ◌∷◌, ◌++◌, length, map, flat_map, codes, slice_index, Option, Some, None, is_some, if◌then◌else◌}
 use Rattle.std.specs.List.{range_with_len}
 use Rattle.std.specs.Option.{option_or}
 use Rattle.terrain_base.specs.declared.square.Square.{Square}
@@ -23,6 +23,10 @@ refusal when holds = if holds then Some refusal else None
 abbrev pub first_of : List (Option CellRefusal) → Option CellRefusal
 first_of [] = None
 first_of (refusal ∷ later) = option_or refusal (first_of later)
+
+-- a refusal stands in the list, and none before it
+abbrev pub IsFirst : List (Option CellRefusal) → CellRefusal → Type 0
+IsFirst refusals refusal = (before after : List (Option CellRefusal)) × (refusals ≡ before ++ Some refusal ∷ after) × All IsNone before
 
 -- ---- the header's conditions
 

@@ -1,11 +1,11 @@
 // A column of a cell.
 ghost use Rattle.std.specs.Prelude.{◌≡◌, ◌+◌, ◌*◌, ◌≤◌, length};
-ghost use Rattle.dted_cell.specs.Cell.{post_of_row};
+ghost use Rattle.dted_cell.specs.Cell.{post_of_row, is_void_post};
 
 use std::marker::Model;
 use terrain_base::Post;
 
-use crate::elevation::post;
+use crate::elevation::{VOID, post};
 use crate::field::word;
 
 /// The elevations of a column, where they lie. It is seen as their bytes: two for each row, from the
@@ -37,6 +37,14 @@ impl<'a> ProfileView<'a> {
         ensures { result ≡ post_of_row self.now row }
     {
         post(word(self.elevations, 2 * row as usize))
+    }
+
+    /// Whether the post of a row is void.
+    pub(crate) fn is_void(&self, row: u16) -> bool
+        requires { 2 * row + 2 ≤ length self.now }
+        ensures { result ≡ is_void_post (post_of_row self.now row) }
+    {
+        word(self.elevations, 2 * row as usize) == VOID
     }
 
     /// The elevations as they stand in the file.

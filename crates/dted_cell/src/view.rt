@@ -1,14 +1,17 @@
 // A cell, read where its bytes lie.
-ghost use Rattle.std.specs.Prelude.{◌≡◌, ℕ, ◌+◌, ◌*◌, ◌^◌, ◌<◌, ◌≤◌, ◌↔◌, length, IfOk, IsOk, OnOk};
+ghost use Rattle.std.specs.Prelude.{◌≡◌, ℕ, ◌+◌, ◌*◌, ◌^◌, ◌<◌, ◌≤◌, ◌↔◌, length, fold, count_by, IfOk, IsOk, OnOk, IfSome, IsNone};
 ghost use Rattle.std.specs.Result.{result_err};
 ghost use Rattle.dted_cell.specs.Lead.{text_of};
+ghost use Rattle.dted_cell.specs.Record.{record_at};
 ghost use Rattle.dted_cell.specs.Cell.{
-    square_in, level_in, columns_in, rows_in, post_in, profile_in, post_of_row, posts_in
+    IsCell, IsSomeCell, square_in, level_in, columns_in, rows_in, post_in, profile_in, post_of_row, column_in, posts_in,
+    is_void_post, voids_in, widened, extremes_in, IsAllVoid, BoundsPosts
 };
+ghost use Rattle.dted_cell.specs.Good.{IsGood};
 ghost use Rattle.dted_cell.specs.Refusal.{refusal_of};
 
 use std::marker::Model;
-use terrain_base::{CellLevel, Post, Square};
+use terrain_base::{CellLevel, Extremes, Post, Square};
 
 use crate::CellRefusal;
 use crate::cell::read_cell;
@@ -40,12 +43,32 @@ impl<'a> Model for CellView<'a> {
 impl<'a> CellView<'a> {
     /// Reads a file of DTED level 0, 1 or 2. Nothing is copied, and each record is passed over once.
     pub fn read(bytes: &'a [u8]) -> Result<CellView<'a>, CellRefusal>
+        ensures ok { IsOk result ↔ IsSomeCell bytes.now }
         ensures view { IfOk result (λ view. view ≡ bytes.now) }
+        ensures cell {
+            OnOk result (IsCell bytes.now (square_in bytes.now) (level_in bytes.now) (posts_in bytes.now))
+        }
         // It is the first whose condition holds, and there is none where the file is a cell.
         ensures refusal { result_err result ≡ refusal_of bytes.now }
     {
+        CellView::of_bytes(bytes)
+    }
+
+    /// The view of a file that is a cell, or its refusal.
+    fn of_bytes(bytes: &'a [u8]) -> Result<CellView<'a>, CellRefusal>
+        ensures view { IfOk result (λ view. view ≡ bytes.now) }
+        ensures refusal { result_err result ≡ refusal_of bytes.now }
+    {
         let header = read_cell(bytes)?;
-        Ok(CellView { bytes, header })
+        Ok(CellView::of(bytes, header))
+    }
+
+    /// The view of a good file by its header.
+    pub(crate) fn of(bytes: &'a [u8], header: Header) -> CellView<'a>
+        requires { IsGood bytes.now header }
+        ensures { result ≡ bytes.now }
+    {
+        CellView { bytes, header }
     }
 
     /// The cell's square.
@@ -78,5 +101,121 @@ impl<'a> CellView<'a> {
         ensures { result ≡ rows_in self.now }
     {
         self.header.rows
+    }
+
+    /// What follows the lead.
+    #[tactic(
+        auto,
+        using(
+            crate::proofs::Views::view_lead, crate::proofs::Views::view_long, crate::proofs::Leads::lead_within
+        )
+    )]
+    fn text(&self) -> &'a [u8]
+        ensures text { result.now ≡ text_of self.now }
+        ensures long { record_at (rows_in self.now) (columns_in self.now) ≤ length result.now }
+    {
+        behind(self.bytes, self.header.lead)
+    }
+
+    /// The elevations of a column.
+    pub fn profile(&self, col: u16) -> ProfileView<'a>
+        requires { col < columns_in self.now }
+        ensures bytes { result ≡ profile_in self.now col }
+        ensures length { length result ≡ 2 * rows_in self.now }
+        ensures posts { (row : ℕ) → row < rows_in self.now → post_of_row result row ≡ post_in self.now col row }
+    {
+        let text = self.text();
+        let rows = self.rows();
+        let start = record_start(rows, col) + 8;
+        ProfileView::of(&text[start..start + 2 * rows as usize])
+    }
+
+    /// The post of a column and a row.
+    pub fn post(&self, col: u16, row: u16) -> Post
+        requires col { col < columns_in self.now }
+        requires row { row < rows_in self.now }
+        ensures { result ≡ post_in self.now col row }
+    {
+        self.profile(col).post(row)
+    }
+
+    /// How many posts of a column are void.
+    #[tactic(auto, using(crate::proofs::Counts::count_next))]
+    fn voids_of(&self, col: u16) -> u32
+        requires { col < columns_in self.now }
+        ensures exact { result ≡ count_by is_void_post (column_in self.now col) }
+        ensures few { result ≤ rows_in self.now }
+        ensures small { rows_in self.now < 2 ^ 16 }
+    {
+        let profile = self.profile(col);
+        let mut voids: u32 = 0;
+        for row in 0..self.rows() {
+            voids += u32::from(profile.is_void(row));
+        }
+        voids
+    }
+
+    /// How many posts are void.
+    #[tactic(auto, using(crate::proofs::Counts::sum_next), unfolding(crate::specs::Cell::voids_in, crate::specs::Cell::posts_in))]
+    pub fn voids(&self) -> u32
+        ensures { result ≡ voids_in self.now }
+    {
+        let mut voids: u32 = 0;
+        for col in 0..self.columns() {
+            voids += self.voids_of(col);
+        }
+        voids
+    }
+
+    /// Extremes, with the posts of a column.
+    #[tactic(auto, using(crate::proofs::Counts::fold_next))]
+    fn extremes_with(&self, before: Option<Extremes>, col: u16) -> Option<Extremes>
+        requires { col < columns_in self.now }
+        ensures { result ≡ fold widened before (column_in self.now col) }
+    {
+        let profile = self.profile(col);
+        let mut extremes = before;
+        for row in 0..self.rows() {
+            extremes = widen(extremes, profile.post(row));
+        }
+        extremes
+    }
+
+    /// The least and the greatest post. There is none exactly where every post is void.
+    pub fn extremes(&self) -> Option<Extremes>
+        ensures none { IsNone result ↔ IsAllVoid self.now }
+        ensures bounds { IfSome result (BoundsPosts self.now) }
+        ensures value { result ≡ extremes_in self.now }
+    {
+        self.extremes_of()
+    }
+
+    /// The same, by every post in turn.
+    #[tactic(
+        auto,
+        using(crate::proofs::Counts::fold_next),
+        unfolding(crate::specs::Cell::extremes_in, crate::specs::Cell::posts_in)
+    )]
+    fn extremes_of(&self) -> Option<Extremes>
+        ensures { result ≡ extremes_in self.now }
+    {
+        let mut extremes = None;
+        for col in 0..self.columns() {
+            extremes = self.extremes_with(extremes, col);
+        }
+        extremes
+    }
+}
+
+/// Extremes, with one post more.
+fn widen(extremes: Option<Extremes>, post: Post) -> Option<Extremes>
+    ensures { result ≡ widened extremes post }
+{
+    match (extremes, post) {
+        (_, Post::Void) => extremes,
+        (None, Post::Metres(z)) => Some(Extremes { least: z, greatest: z }),
+        (Some(e), Post::Metres(z)) => {
+            Some(Extremes { least: e.least.min(z), greatest: e.greatest.max(z) })
+        }
     }
 }

@@ -1,0 +1,26 @@
+//! What the definitions of a cell say of one another. Each function does nothing: its contract is a law.
+ghost use Rattle.std.specs.Prelude.{◌≡◌, ℕ, List, None, Some};
+ghost use Rattle.terrain_base.specs.declared.square.Square.{Square};
+ghost use Rattle.terrain_base.specs.declared.level.CellLevel.{CellLevel};
+ghost use Rattle.terrain_base.specs.declared.post.Post.{Post};
+ghost use Rattle.dted_cell.specs.declared.refusal.CellRefusal.{CellRefusal};
+ghost use Rattle.dted_cell.specs.Cell.{IsCell, square_in, level_in, posts_in};
+ghost use Rattle.dted_cell.specs.Refusal.{IsFirst, conditions_of, refusal_of};
+
+/// A file is a cell exactly where it gets no refusal, and then of one square, one level and one list of
+/// posts: those that are read.
+pub fn one_cell()
+    ensures accepted { (bytes : List ℕ) → refusal_of bytes ≡ None → IsCell bytes (square_in bytes) (level_in bytes) (posts_in bytes) }
+    ensures unrefused { (bytes : List ℕ) (square : Square) (level : CellLevel) (posts : List (List Post)) → IsCell bytes square level posts → refusal_of bytes ≡ None }
+    ensures square { (bytes : List ℕ) (square : Square) (level : CellLevel) (posts : List (List Post)) → IsCell bytes square level posts → square ≡ square_in bytes }
+    ensures level { (bytes : List ℕ) (square : Square) (level : CellLevel) (posts : List (List Post)) → IsCell bytes square level posts → level ≡ level_in bytes }
+    ensures posts { (bytes : List ℕ) (square : Square) (level : CellLevel) (posts : List (List Post)) → IsCell bytes square level posts → posts ≡ posts_in bytes }
+{
+}
+
+/// A file gets a refusal exactly where its condition holds and none before it does.
+pub fn first_refusal()
+    ensures found { (bytes : List ℕ) (refusal : CellRefusal) → refusal_of bytes ≡ Some refusal → IsFirst (conditions_of bytes) refusal }
+    ensures only { (bytes : List ℕ) (refusal : CellRefusal) → IsFirst (conditions_of bytes) refusal → refusal_of bytes ≡ Some refusal }
+{
+}
