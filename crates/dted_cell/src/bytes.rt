@@ -1,5 +1,5 @@
 // The bytes of a cell, owned.
-ghost use Rattle.std.specs.Prelude.{◌≡◌, ◌↔◌, List, ℕ, Some, IfOk, IfErr, IsOk};
+ghost use Rattle.std.specs.Prelude.{◌≡◌, ◌↔◌, List, ℕ, Some, None, IfOk, IfErr, IsOk};
 ghost use Rattle.dted_cell.specs.Cell.{IsSomeCell};
 ghost use Rattle.dted_cell.specs.Refusal.{refusal_of};
 
@@ -57,7 +57,8 @@ impl CellBytes {
 
     /// The file's bytes.
     pub fn bytes(&self) -> &[u8]
-        ensures { result.now ≡ self.now }
+        ensures value { result.now ≡ self.now }
+        ensures cell { refusal_of self.now ≡ None }
     {
         &self.bytes
     }
