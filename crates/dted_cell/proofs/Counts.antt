@@ -1,6 +1,5 @@
 -- Loops over the rows of a column and over the columns.
-use Rattle.std.proofs.Common.{◌≡◌, ℕ, ◌+◌, ◌*◌, ◌^◌, ◌-◌, ◌<◌, ◌≤◌, Bool, cond, map, refl, ap, ◌∙◌, arith}
-use Rattle.std.proofs.Math.Nat.{mul-le-mul}
+use Rattle.std.proofs.Common.{◌≡◌, ℕ, ◌+◌, Bool, cond, map, ap, ◌∙◌, arith}
 use Rattle.std.proofs.lemmas.List.FromFn.{sum_by-map-range_with_len_more, map-range_with_len_more}
 use Rattle.std.proofs.lemmas.List.Sums.{fold_push}
 use Rattle.std.specs.List.{range_with_len, fold, sum_by, count_by}
@@ -13,10 +12,3 @@ count_next p f n = sum_by-map-range_with_len_more (λ x. cond (p x) 1 0) f 0 n n
 
 pub fold_next : {X Y : Type 0} (step : Y → X → Y) (f : ℕ → X) (a : Y) (n : ℕ) → fold step a (map f (range_with_len 0 (n + 1))) ≡ step (fold step a (map f (range_with_len 0 n))) (f n)
 fold_next step f a n = ap (fold step a) (map-range_with_len_more f 0 n n (omega arith)) ∙ fold_push step a (map f (range_with_len 0 n)) (f n)
-
--- a count so far, and one column more
-pub count_fits : (count col more rows : ℕ) → count ≤ col * rows → more ≤ rows → rows < 2 ^ 16 → col < 2 ^ 16 - 1 → count + more < 2 ^ 32
-count_fits count col more rows p q r k =
-    let c : col + 1 ≤ 65535 = omega arith in
-    let d : rows ≤ 65535 = omega arith in
-    omega (arith, mul-le-mul c d)

@@ -1,5 +1,6 @@
 pub mod Cells
 pub mod Counts
+pub mod Extremes
 pub mod First
 pub mod HeaderLaws
 pub mod Headers

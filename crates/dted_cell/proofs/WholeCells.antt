@@ -116,9 +116,15 @@ pub first_only : (cs : List (Option CellRefusal)) (e : CellRefusal) → IsFirst 
 first_only cs e (before, after, parts, all) = ap first_of parts ∙ past before (Some e ∷ after) all
 
 -- ---- a call that answers by the refusal
+pub some_cell : (bytes : List ℕ) → refusal_of bytes ≡ None → IsSomeCell bytes
+some_cell bytes e = (square_in bytes, level_in bytes, posts_in bytes, cell_by bytes e)
+
+pub no_cell : (bytes : List ℕ) (refusal : CellRefusal) → refusal_of bytes ≡ Some refusal → IsSomeCell bytes → ⊥
+no_cell bytes refusal e (square, level, posts, cell) = let same = sym e ∙ (by_cell bytes square level posts cell).accepted in cc
+
 pub ok_iff : (bytes : List ℕ) (result : Result (List ℕ) CellRefusal) → result_err result ≡ refusal_of bytes → IsOk result ↔ IsSomeCell bytes
-ok_iff bytes (Ok v) e = (λ ok. (square_in bytes, level_in bytes, posts_in bytes, cell_by bytes (sym e)), λ cell. refl)
-ok_iff bytes (Err x) e = (λ ok. cc, λ (square, level, posts, cell). let same = e ∙ (by_cell bytes square level posts cell).accepted in cc)
+ok_iff bytes (Ok v) e = (λ ok. some_cell bytes (sym e), λ cell. refl)
+ok_iff bytes (Err x) e = (λ ok. cc, λ cell. absurd (no_cell bytes x (sym e) cell))
 
 pub cell_on_ok : (bytes : List ℕ) (result : Result (List ℕ) CellRefusal) → result_err result ≡ refusal_of bytes → OnOk result (IsCell bytes (square_in bytes) (level_in bytes) (posts_in bytes))
 cell_on_ok bytes (Ok v) e = cell_by bytes (sym e)

@@ -89,8 +89,12 @@ extremes_in bytes = fold (fold widened) None (posts_in bytes)
 abbrev pub HasHeight : List ℕ → ℤ → Type 0
 HasHeight bytes metres = (col row : ℕ) × (col < columns_in bytes) × (row < rows_in bytes) × (post_in bytes col row ≡ Metres metres)
 
+-- every post is void
+abbrev pub IsAllVoid : List ℕ → Type 0
+IsAllVoid bytes = (col row : ℕ) → col < columns_in bytes → row < rows_in bytes → post_in bytes col row ≡ Void
+
 -- both numbers are heights of posts, and each post's height lies between them
 pub record BoundsPosts (bytes : List ℕ) (extremes : Extremes) : Type 0 where
-  pub least : HasHeight bytes extremes.least
-  pub greatest : HasHeight bytes extremes.greatest
+  pub has_least : HasHeight bytes extremes.least
+  pub has_greatest : HasHeight bytes extremes.greatest
   pub between : (metres : ℤ) → HasHeight bytes metres → (extremes.least ≤ℤ metres) × (metres ≤ℤ extremes.greatest)

@@ -1,6 +1,7 @@
 //! Cells of DTED levels 0 to 2, read where their bytes lie (MIL-PRF-89020).
 #![tactic(auto)]
 
+mod bytes;
 mod cell;
 mod elevation;
 mod field;
@@ -14,6 +15,7 @@ mod refusal;
 mod trouble;
 mod view;
 
+pub use bytes::{CellBytes, RefusedCell};
 pub use profile::ProfileView;
 pub use refusal::CellRefusal;
 pub use trouble::CellTrouble;

@@ -1,12 +1,13 @@
 // A cell, read where its bytes lie.
-ghost use Rattle.std.specs.Prelude.{◌≡◌, ℕ, ◌+◌, ◌*◌, ◌^◌, ◌<◌, ◌≤◌, ◌↔◌, length, fold, count_by, IfOk, IsOk, OnOk};
+ghost use Rattle.std.specs.Prelude.{◌≡◌, ℕ, ◌+◌, ◌*◌, ◌^◌, ◌<◌, ◌≤◌, ◌↔◌, length, fold, count_by, IfOk, IsOk, OnOk, IfSome, IsNone};
 ghost use Rattle.std.specs.Result.{result_err};
 ghost use Rattle.dted_cell.specs.Lead.{text_of};
 ghost use Rattle.dted_cell.specs.Record.{record_at};
 ghost use Rattle.dted_cell.specs.Cell.{
     IsCell, IsSomeCell, square_in, level_in, columns_in, rows_in, post_in, profile_in, post_of_row, column_in, posts_in,
-    is_void_post, voids_in, widened, extremes_in
+    is_void_post, voids_in, widened, extremes_in, IsAllVoid, BoundsPosts
 };
+ghost use Rattle.dted_cell.specs.Good.{IsGood};
 ghost use Rattle.dted_cell.specs.Refusal.{refusal_of};
 
 use std::marker::Model;
@@ -59,7 +60,15 @@ impl<'a> CellView<'a> {
         ensures refusal { result_err result ≡ refusal_of bytes.now }
     {
         let header = read_cell(bytes)?;
-        Ok(CellView { bytes, header })
+        Ok(CellView::of(bytes, header))
+    }
+
+    /// The view of a good file by its header.
+    pub(crate) fn of(bytes: &'a [u8], header: Header) -> CellView<'a>
+        requires { IsGood bytes.now header }
+        ensures { result ≡ bytes.now }
+    {
+        CellView { bytes, header }
     }
 
     /// The cell's square.
@@ -173,9 +182,22 @@ impl<'a> CellView<'a> {
     }
 
     /// The least and the greatest post. There is none exactly where every post is void.
-    #[tactic(auto, using(crate::proofs::Counts::fold_next), unfolding(crate::specs::Cell::extremes_in, crate::specs::Cell::posts_in))]
     pub fn extremes(&self) -> Option<Extremes>
+        ensures none { IsNone result ↔ IsAllVoid self.now }
+        ensures bounds { IfSome result (BoundsPosts self.now) }
         ensures value { result ≡ extremes_in self.now }
+    {
+        self.extremes_of()
+    }
+
+    /// The same, by every post in turn.
+    #[tactic(
+        auto,
+        using(crate::proofs::Counts::fold_next),
+        unfolding(crate::specs::Cell::extremes_in, crate::specs::Cell::posts_in)
+    )]
+    fn extremes_of(&self) -> Option<Extremes>
+        ensures { result ≡ extremes_in self.now }
     {
         let mut extremes = None;
         for col in 0..self.columns() {

@@ -1,0 +1,5 @@
+pub mod Blend
+pub mod Candidates
+pub mod Cells
+pub mod Fault
+pub mod Source

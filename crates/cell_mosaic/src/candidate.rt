@@ -1,0 +1,90 @@
+// The squares that have a place.
+ghost use Rattle.std.specs.Prelude.{◌≡◌, ◌+◌, ◌<◌, ◌≤◌, [], ◌++◌, length, slice_get, Some, if◌then◌else◌};
+ghost use Rattle.tms_tree.specs.Place.{IsPlace};
+ghost use Rattle.cell_mosaic.specs.Candidates.{squares_at, candidates_of};
+
+use std::marker::Model;
+use terrain_base::Square;
+use tms_tree::Place;
+
+/// At most four squares, in their order.
+#[derive(Drop)]
+pub struct SquareList {
+    squares: [Square; 4],
+    count: u8,
+}
+
+impl Model for SquareList {
+    ghost use Rattle.std.specs.Prelude.{List, take, ◌≤◌};
+    ghost use Rattle.terrain_base.specs.declared.square.Square as square;
+
+    ghost Value = { List square.Square };
+
+    ghost view = { λ l. take l.count l.squares };
+
+    ghost invariant = { λ l. l.count ≤ 4 };
+}
+
+impl SquareList {
+    // No squares.
+    fn empty() -> SquareList
+        ensures { result ≡ [] }
+    {
+        SquareList {
+            squares: [Square { lat: 0, lon: 0 }; 4],
+            count: 0,
+        }
+    }
+
+    // Adds the square at these degrees, if there is one and it is wanted.
+    fn push_if(&mut self, wanted: bool, lon: u16, lat: u16)
+        requires { length self.old < 4 }
+        ensures squares { self.new ≡ self.old ++ (if wanted then squares_at lon lat else []) }
+        ensures room { length self.new ≤ length self.old + 1 }
+    {
+        if wanted {
+            if let Some(square) = Square::of(lon, lat) {
+                self.squares[self.count as usize] = square;
+                self.count += 1;
+            }
+        }
+    }
+
+    /// How many squares there are, at most four.
+    pub fn count(&self) -> u8
+        ensures count { result ≡ length self.now }
+        ensures few { result ≤ 4 }
+    {
+        self.count
+    }
+
+    /// The square of this number, from 0.
+    pub fn at(&self, k: u8) -> Square
+        requires { k < length self.now }
+        ensures { slice_get self.now k ≡ Some result }
+    {
+        self.squares[k as usize]
+    }
+}
+
+/// The squares whose closed square of one degree has the place, longitudes taken modulo 360 degrees: that
+/// of the whole degrees at or below it; where it lies on a meridian of whole degrees the one west of it;
+/// where it lies on such a parallel the one south of it; where on both the one south-west of it.
+pub fn candidates(place: Place) -> SquareList
+    requires { IsPlace place }
+    ensures { result ≡ candidates_of place }
+{
+    let (east, north) = (180 * place.p, 180 * place.q);
+    let lon = (east / place.d % 360) as u16;
+    let lat = (north / place.d) as u16;
+    let west = (lon + 359) % 360;
+    let south = lat.saturating_sub(1);
+    let on_meridian = east % place.d == 0;
+    let on_parallel = north % place.d == 0 && lat > 0;
+    let mut squares = SquareList::empty();
+    squares.push_if(true, lon, lat);
+    squares.push_if(on_meridian, west, lat);
+    squares.push_if(on_parallel, lon, south);
+    squares.push_if(on_meridian && on_parallel, west, south);
+    squares
+}
