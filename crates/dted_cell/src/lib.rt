@@ -14,6 +14,9 @@ mod record;
 mod refusal;
 mod view;
 
+#[cfg(test)]
+mod tests;
+
 pub use bytes::{CellBytes, RefusedCell};
 pub use profile::ProfileView;
 pub use refusal::CellRefusal;
