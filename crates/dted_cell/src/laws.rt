@@ -1,10 +1,12 @@
 //! What the definitions of a cell say of one another. Each function does nothing: its contract is a law.
-ghost use Rattle.std.specs.Prelude.{◌≡◌, ℕ, List, None, Some};
+ghost use Rattle.std.specs.Prelude.{◌≡◌, ℕ, ◌*◌, List, None, Some};
 ghost use Rattle.terrain_base.specs.declared.square.Square.{Square};
 ghost use Rattle.terrain_base.specs.declared.level.CellLevel.{CellLevel};
 ghost use Rattle.terrain_base.specs.declared.post.Post.{Post};
 ghost use Rattle.dted_cell.specs.declared.refusal.CellRefusal.{CellRefusal};
 ghost use Rattle.dted_cell.specs.Cell.{IsCell, square_in, level_in, posts_in};
+ghost use Rattle.dted_cell.specs.Field.{number_of, IsNumberField};
+ghost use Rattle.dted_cell.specs.Lead.{AreLabels, lead_of};
 ghost use Rattle.dted_cell.specs.Refusal.{IsFirst, conditions_of, refusal_of};
 
 /// A file is a cell exactly where it gets no refusal, and then of one square, one level and one list of
@@ -22,5 +24,18 @@ pub fn one_cell()
 pub fn first_refusal()
     ensures found { (bytes : List ℕ) (refusal : CellRefusal) → refusal_of bytes ≡ Some refusal → IsFirst (conditions_of bytes) refusal }
     ensures only { (bytes : List ℕ) (refusal : CellRefusal) → IsFirst (conditions_of bytes) refusal → refusal_of bytes ≡ Some refusal }
+{
+}
+
+/// A field has a number exactly where it is blanks and then the digits of that number, at least one.
+pub fn number_field()
+    ensures parts { (field : List ℕ) (n : ℕ) → number_of field ≡ Some n → IsNumberField field n }
+    ensures whole { (field : List ℕ) (n : ℕ) → IsNumberField field n → number_of field ≡ Some n }
+{
+}
+
+/// The lead is all the labels at the start of a file, at most four.
+pub fn lead_is_labels()
+    ensures { (bytes : List ℕ) → (count : ℕ) × AreLabels bytes count × (lead_of bytes ≡ 80 * count) }
 {
 }
