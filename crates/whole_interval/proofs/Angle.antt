@@ -19,8 +19,8 @@ unfolding angle_of
 angle_is t d hi e p h =
     let size = angle_up_to t d p h in
     same_ends _ _ _
-        (few (pi_low * t / (2 * d)) (omega (arith, ints, size.ordered, size.high)))
-        (few hi (omega (arith, ints, size.high, e)) ∙ ap pos e)
+    (few (pi_low * t / (2 * d)) (omega (arith, ints, size.ordered, size.high)))
+    (few hi (omega (arith, ints, size.high, e)) ∙ ap pos e)
 
 -- a number above 0 is its size
 pub size_positive : (d : ℤ) → pos 0 <ℤ d → 0 < unsigned_abs d

@@ -1,11 +1,13 @@
 -- What the branches of the code compute.
-use Rattle.std.proofs.Common.{◌≡◌, ℕ, ◌+◌, ◌-◌, ◌*◌, ◌%◌, ◌<◌, ◌≤◌, refl, arith, Bool, true, false, ◌∙◌, sym, ap}
+use Rattle.std.proofs.Common.{◌≡◌, ℕ, ◌+◌, ◌-◌, ◌*◌, ◌%◌, ◌<◌, ◌≤◌, refl, arith, Bool, true, false, ◌∙◌}
+use Rattle.std.proofs.Common.{sym, ap}
 use Rattle.std.proofs.lemmas.Bool.Decides.{nat_tests}
 use Rattle.std.specs.Prelude.{if◌then◌else◌, ◌==◌, nat_le}
 use Rattle.whole_interval.specs.declared.interval.Interval.{Interval}
 use Rattle.whole_interval.specs.declared.sine_cosine.SineCosine.{SineCosine}
 use Rattle.whole_interval.specs.Interval.{add_of, sub_of, negated_of}
-use Rattle.whole_interval.specs.HalfTurn.{alternated_of, octant_sine_of, octant_cosine_of, quarter_sine_of, quarter_cosine_of, turned_of}
+use Rattle.whole_interval.specs.HalfTurn.{alternated_of, octant_sine_of, octant_cosine_of, quarter_sine_of}
+use Rattle.whole_interval.specs.HalfTurn.{quarter_cosine_of, turned_of}
 
 if_true : {A : Type 0} (b : Bool) (x y : A) → b ≡ true → (if b then x else y) ≡ x
 if_true true x y e = refl
@@ -31,7 +33,8 @@ pub alternated_even : (sum term : Interval) (j : ℕ) → j % 2 ≡ 0 → sub_of
 unfolding alternated_of
 alternated_even sum term j e = sym (if_true (j % 2 == 0) _ _ (same (j % 2) 0 e))
 
-pub alternated_odd : (sum term : Interval) (j : ℕ) → ¬ (j % 2 ≡ 0) → add_of sum term ≡ alternated_of sum term j
+pub alternated_odd : (sum term : Interval) (j : ℕ) → ¬ (j % 2 ≡ 0)
+    → add_of sum term ≡ alternated_of sum term j
 unfolding alternated_of
 alternated_odd sum term j e = sym (if_false (j % 2 == 0) _ _ (apart (j % 2) 0 e))
 
@@ -51,11 +54,13 @@ pub quarter_cosine_far : (r d : ℕ) → d < 2 * r → octant_sine_of (d - r) d 
 unfolding quarter_cosine_of
 quarter_cosine_far r d h = sym (if_false (nat_le (2 * r) d) _ _ (above (2 * r) d h))
 
-pub turned_none : (k : ℕ) (s c : Interval) → k ≡ 0 → ◌≡◌ {A = SineCosine} (record { sine = s; cosine = c }) (turned_of k s c)
+pub turned_none : (k : ℕ) (s c : Interval) → k ≡ 0
+    → ◌≡◌ {A = SineCosine} (record { sine = s; cosine = c }) (turned_of k s c)
 unfolding turned_of
 turned_none k s c e = rw e refl
 
-pub turned_once : (k : ℕ) (s c t : Interval) → k ≡ 1 → t ≡ negated_of s → ◌≡◌ {A = SineCosine} (record { sine = c; cosine = t }) (turned_of k s c)
+pub turned_once : (k : ℕ) (s c t : Interval) → k ≡ 1 → t ≡ negated_of s
+    → ◌≡◌ {A = SineCosine} (record { sine = c; cosine = t }) (turned_of k s c)
 unfolding turned_of
 turned_once k s c t e f = rw (e, f) refl
 

@@ -1,8 +1,11 @@
 // Intervals of whole numbers, in units of 2^-48, and their operations, rounded outward.
-ghost use Rattle.std.specs.Prelude.{◌≡◌, ℕ, ℤ, ◌+◌, ◌*◌, ◌^◌, ◌<◌, ◌≤◌, pos, neg_ℤ, ◌≤ℤ◌, ◌<ℤ◌, ◌*ℤ◌, unsigned_abs, int_lt, if◌then◌else◌};
+ghost use Rattle.std.specs.Prelude.{◌≡◌, ℕ, ℤ, ◌+◌, ◌*◌, ◌^◌, ◌<◌, ◌≤◌, pos, neg_ℤ, ◌≤ℤ◌, ◌<ℤ◌, ◌*ℤ◌};
+ghost use Rattle.std.specs.Prelude.{unsigned_abs, int_lt, if◌then◌else◌};
 ghost use Rattle.terrain_base.specs.Division.{floor_of, ceil_of, root_of};
 ghost use Rattle.whole_interval.specs.Fraction.{Fraction, plus, minus, times, over_whole, over};
-ghost use Rattle.whole_interval.specs.Interval.{Holds, IsWithin, least_of, greatest_of, root_up_of, add_of, sub_of, mul_of, div_whole_of, div_pos_of, sqrt_of, negated_of};
+ghost use Rattle.whole_interval.specs.Interval.{Holds, IsWithin, IsRootUp, least_of, greatest_of};
+ghost use Rattle.whole_interval.specs.Interval.{root_up_of, add_of, sub_of, mul_of, div_whole_of};
+ghost use Rattle.whole_interval.specs.Interval.{div_pos_of, sqrt_of, negated_of};
 
 use terrain_base::{ceil_div, floor_div, isqrt};
 
@@ -163,12 +166,14 @@ fn root_high(z: i128) -> i128
     root_up(z.unsigned_abs() * ONE.unsigned_abs()) as i128
 }
 
-/// The square roots, for lo from 0 on and hi of at most 2^50. The result has all fractions from 0 on whose square is in a.
+/// The square roots, for lo from 0 on and hi of at most 2^50. The result has all fractions from 0 on whose
+/// square is in a.
 pub fn sqrt(a: &Interval) -> Interval
     requires low { pos 0 ≤ℤ a.now.lo }
     requires ordered { a.now.lo ≤ℤ a.now.hi }
     requires high { a.now.hi ≤ℤ pos (2 ^ 50) }
     ensures exact { result ≡ sqrt_of a.now }
+    ensures root_up { IsRootUp (unsigned_abs a.now.hi * 2 ^ 48) (unsigned_abs result.hi) }
     ensures ordered { result.lo ≤ℤ result.hi }
     ensures encloses { (f : Fraction) → pos 0 ≤ℤ f.numerator → Holds a.now (times f f) → Holds result f }
 {

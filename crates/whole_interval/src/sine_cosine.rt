@@ -1,8 +1,12 @@
 // Bounds of the sine and the cosine of pi * n / d, by partial sums of their series.
-ghost use Rattle.std.specs.Prelude.{◌≡◌, ℕ, ℤ, ◌+◌, ◌*◌, ◌^◌, ◌<◌, ◌≤◌, pos, neg_ℤ, ◌≤ℤ◌, ◌<ℤ◌, ◌*ℤ◌, unsigned_abs};
+ghost use Rattle.std.specs.Prelude.{◌≡◌, ℕ, ℤ, ◌+◌, ◌*◌, ◌^◌, ◌<◌, ◌≤◌, pos, neg_ℤ, ◌≤ℤ◌, ◌<ℤ◌, ◌*ℤ◌};
+ghost use Rattle.std.specs.Prelude.{unsigned_abs};
 ghost use Rattle.whole_interval.specs.Fraction.{Fraction};
 ghost use Rattle.whole_interval.specs.Interval.{Holds, IsWithin, negated_of};
-ghost use Rattle.whole_interval.specs.HalfTurn.{IsUpTo, angle_of, next_of, alternated_of, series_of, octant_sine_of, octant_cosine_of, quarter_sine_of, quarter_cosine_of, turned_of, turn_of, half_turn_of, one_of};
+ghost use Rattle.whole_interval.specs.HalfTurn.{IsUpTo, angle_of, next_of, alternated_of, series_of};
+ghost use Rattle.whole_interval.specs.HalfTurn.{octant_sine_of, octant_cosine_of, quarter_sine_of};
+ghost use Rattle.whole_interval.specs.HalfTurn.{quarter_cosine_of, turned_of, turn_of, half_turn_of};
+ghost use Rattle.whole_interval.specs.HalfTurn.{one_of};
 ghost use Rattle.whole_interval.specs.Sine.{IsSine, IsCosine};
 
 use crate::interval::{Interval, ONE, add, div_whole, mul, sub};
@@ -16,7 +20,9 @@ pub struct SineCosine {
 
 // Pi in units of 2^-48, rounded down and up: it lies between these numerators over 10^20.
 const PI_LOW: u128 = 314_159_265_358_979_323_846 * 0x1_0000_0000_0000 / 100_000_000_000_000_000_000;
-const PI_HIGH: u128 = 314_159_265_358_979_323_847 * 0x1_0000_0000_0000 / 100_000_000_000_000_000_000 + 1;
+
+const PI_HIGH: u128 = 314_159_265_358_979_323_847 * 0x1_0000_0000_0000 / 100_000_000_000_000_000_000
+    + 1;
 
 // The angle pi * t / (2 * d).
 fn angle(t: u128, d: u128) -> Interval
@@ -26,7 +32,10 @@ fn angle(t: u128, d: u128) -> Interval
     ensures exact { result ≡ angle_of t d }
     ensures size { IsUpTo 48 result }
 {
-    Interval { lo: (PI_LOW * t / (2 * d)) as i128, hi: (PI_HIGH * t).div_ceil(2 * d) as i128 }
+    Interval {
+        lo: (PI_LOW * t / (2 * d)) as i128,
+        hi: (PI_HIGH * t).div_ceil(2 * d) as i128,
+    }
 }
 
 // The next term of a series.
@@ -47,7 +56,11 @@ fn alternated(sum: &Interval, term: &Interval, j: u32) -> Interval
     requires term { IsUpTo 48 term.now }
     ensures { result ≡ alternated_of sum.now term.now j }
 {
-    if j % 2 == 0 { sub(sum, term) } else { add(sum, term) }
+    if j % 2 == 0 {
+        sub(sum, term)
+    } else {
+        add(sum, term)
+    }
 }
 
 // From the partial sum of eight terms to that of nine.
@@ -65,7 +78,10 @@ fn series(first: &Interval, square: &Interval, from: u32) -> Interval
         eight = alternated(&eight, &term, j);
     }
     let nine = alternated(&eight, &next(&term, square, from, 7), 7);
-    Interval { lo: eight.lo, hi: nine.hi }
+    Interval {
+        lo: eight.lo,
+        hi: nine.hi,
+    }
 }
 
 // The sine of pi * t / (2 * d), where 2 * t is at most d.
@@ -99,7 +115,11 @@ fn quarter_sine(r: u128, d: u128) -> Interval
     ensures exact { result ≡ quarter_sine_of r d }
     ensures size { IsWithin 50 result }
 {
-    if 2 * r <= d { octant_sine(r, d) } else { octant_cosine(d - r, d) }
+    if 2 * r <= d {
+        octant_sine(r, d)
+    } else {
+        octant_cosine(d - r, d)
+    }
 }
 
 // The cosine of pi * r / (2 * d), where r is at most d.
@@ -109,7 +129,11 @@ fn quarter_cosine(r: u128, d: u128) -> Interval
     ensures exact { result ≡ quarter_cosine_of r d }
     ensures size { IsWithin 50 result }
 {
-    if 2 * r <= d { octant_cosine(r, d) } else { octant_sine(d - r, d) }
+    if 2 * r <= d {
+        octant_cosine(r, d)
+    } else {
+        octant_sine(d - r, d)
+    }
 }
 
 // The numbers of the interval with their signs changed.
@@ -118,7 +142,10 @@ fn negated(a: &Interval) -> Interval
     ensures exact { result ≡ negated_of a.now }
     ensures size { IsWithin 50 result }
 {
-    Interval { lo: -a.hi, hi: -a.lo }
+    Interval {
+        lo: -a.hi,
+        hi: -a.lo,
+    }
 }
 
 // The sine and the cosine k quarter turns on.
@@ -131,9 +158,18 @@ fn turned(k: u128, sine: Interval, cosine: Interval) -> SineCosine
 {
     match k {
         0 => SineCosine { sine, cosine },
-        1 => SineCosine { sine: cosine, cosine: negated(&sine) },
-        2 => SineCosine { sine: negated(&sine), cosine: negated(&cosine) },
-        _ => SineCosine { sine: negated(&cosine), cosine: sine },
+        1 => SineCosine {
+            sine: cosine,
+            cosine: negated(&sine),
+        },
+        2 => SineCosine {
+            sine: negated(&sine),
+            cosine: negated(&cosine),
+        },
+        _ => SineCosine {
+            sine: negated(&cosine),
+            cosine: sine,
+        },
     }
 }
 
@@ -150,8 +186,10 @@ fn turn(m: u128, d: u128) -> SineCosine
     turned(2 * m / d, quarter_sine(left, d), quarter_cosine(left, d))
 }
 
-/// Bounds of the sine and the cosine of pi * n / d, for d from 1 to 2^30 and n from -2 * d to 2 * d. They have every
-/// value that is between the partial sums of eight and of nine terms of the series, and their ends are at most 2^50 in size.
+/// Bounds of the sine and the cosine of pi * n / d, for d from 1 to 2^30 and n from -2 * d to 2 * d.
+///
+/// They have every value between the partial sums of eight and of nine terms of the series. Their ends are at
+/// most 2^50 in size.
 pub fn half_turn(n: i128, d: i128) -> SineCosine
     requires positive { pos 0 <ℤ d }
     requires few { d ≤ℤ pos (2 ^ 30) }

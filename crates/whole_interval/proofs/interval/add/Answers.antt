@@ -17,6 +17,7 @@ returns c =
     let hi : FitsSigned w128 (a.hi +ℤ b.hi) = search rules in
     record {
       exact = simp to_z-of_z (add_is a b);
-      ordered = simp to_z-of_z (ordered_as (add_is a b) (add_ordered a b c.requires.a.ordered c.requires.b.ordered));
+      ordered = simp to_z-of_z (ordered_as (add_is a b)
+          (add_ordered a b c.requires.a.ordered c.requires.b.ordered));
       encloses = λ f g h k. simp to_z-of_z (holds_as _ (add_is a b) (add_holds a b f g h k));
     }

@@ -2,7 +2,8 @@ use Rattle.std.proofs.Common.{rules, FitsSigned, ◌≡◌, ◌*ℤ◌, ◌+ℤ�
 use Rattle.std.proofs.lemmas.Int.{to_z-of_z}
 use mir.Syntax.{w128}
 use Rattle.whole_interval.specs.declared.interval.Interval.{Interval}
-use Rattle.whole_interval.proofs.Enclosures.{sqrt_holds, sqrt_is, sqrt_ordered, holds_as, ordered_as}
+use Rattle.whole_interval.proofs.Enclosures.{sqrt_holds, sqrt_is, root_up_as, sqrt_ordered, sqrt_root_up}
+use Rattle.whole_interval.proofs.Enclosures.{holds_as, ordered_as}
 use Rattle.whole_interval.proofs.interval.sqrt.Goals as goal
 
 pub returns : goal.returns
@@ -17,6 +18,8 @@ returns c =
     let same = sqrt_is a c.root_low.result c.root_high.result e f in
     record {
       exact = simp to_z-of_z same;
+      root_up = simp to_z-of_z (root_up_as _ same (sqrt_root_up a));
       ordered = simp to_z-of_z (ordered_as same (sqrt_ordered a c.requires.low c.requires.ordered));
-      encloses = λ f p h. simp to_z-of_z (holds_as _ same (sqrt_holds a f c.requires.low c.requires.ordered p h));
+      encloses = λ f p h. simp to_z-of_z (holds_as _ same
+          (sqrt_holds a f c.requires.low c.requires.ordered p h));
     }

@@ -15,12 +15,15 @@ returns c =
     let turn : FitsSigned w128 (pos 2 *ℤ c.args.d) = search rules in
     let rem : FitsSigned w128 c.rem_euclid.result = search rules in
     let size = size_positive c.args.d c.requires.positive in
-    let value = rw (twice_is c.args.d c.requires.positive) at (simp to_z-of_z at c.rem_euclid.ensures.value) in
+    let value = rw (twice_is c.args.d c.requires.positive)
+    at (simp to_z-of_z at c.rem_euclid.ensures.value) in
     let exact = rw value at (simp to_z-of_z at c.turn.ensures.exact) in
     record {
       exact = exact;
       sine_size = c.turn.ensures.sine;
       cosine_size = c.turn.ensures.cosine;
-      sine = λ s h. holds_as s (ap (λ (t : SineCosine). t.sine) exact) (sine_holds c.args.n (unsigned_abs c.args.d) s size h);
-      cosine = λ s h. holds_as s (ap (λ (t : SineCosine). t.cosine) exact) (cosine_holds c.args.n (unsigned_abs c.args.d) s size h)
+      sine = λ s h. holds_as s (ap (λ (t : SineCosine). t.sine) exact)
+          (sine_holds c.args.n (unsigned_abs c.args.d) s size h);
+      cosine = λ s h. holds_as s (ap (λ (t : SineCosine). t.cosine) exact)
+          (cosine_holds c.args.n (unsigned_abs c.args.d) s size h);
     }

@@ -13,5 +13,5 @@ returns c =
     let hi : FitsSigned w128 (pos 0 -ℤ a.lo) = search rules in
     record {
       exact = simp to_z-of_z (negated_is a);
-      size = simp to_z-of_z (rw (negated_is a) (negated_within 50 a c.requires))
+      size = simp to_z-of_z (rw (negated_is a) (negated_within 50 a c.requires));
     }

@@ -6,4 +6,5 @@ pub returns-clause-exact : goal.returns-clause-exact
 unfolding turn_of
 returns-clause-exact c = c.turned.ensures.exact
     ∙ ap (λ a. turned_of (2 * c.args.m / c.args.d) a c.quarter_cosine.result) c.quarter_sine.ensures.exact
-    ∙ ap (λ a. turned_of (2 * c.args.m / c.args.d) (quarter_sine_of (2 * c.args.m % c.args.d) c.args.d) a) c.quarter_cosine.ensures.exact
+    ∙ ap (λ a. turned_of (2 * c.args.m / c.args.d) (quarter_sine_of (2 * c.args.m % c.args.d) c.args.d) a)
+    c.quarter_cosine.ensures.exact
