@@ -11,7 +11,9 @@ pub fn cell_refusal_text(alloc: Global, refusal: &CellRefusal) -> Result<String,
     ensures { IfOk result (λ text. string_bytes text ≡ cell_refusal_of refusal.now) }
 {
     match *refusal {
-        CellRefusal::TooShort { need, have } => Ok(format!(in alloc; "C1 too short need {need} have {have}")?),
+        CellRefusal::TooShort { need, have } => Ok(format!(in alloc;
+            "C1 too short need {need} have {have}"
+        )?),
         CellRefusal::NoUhl => Ok(String::from_str(alloc, "C2 no UHL")?),
         CellRefusal::BadField { offset } => Ok(format!(in alloc; "C3 bad field at {offset}")?),
         CellRefusal::OffDegree => Ok(String::from_str(alloc, "C4 off degree")?),
@@ -23,7 +25,15 @@ pub fn cell_refusal_text(alloc: Global, refusal: &CellRefusal) -> Result<String,
         CellRefusal::NoAcc => Ok(String::from_str(alloc, "C10 no ACC")?),
         CellRefusal::BadSentinel { col } => Ok(format!(in alloc; "C11 bad sentinel column {col}")?),
         CellRefusal::BadColumn { col } => Ok(format!(in alloc; "C12 bad column {col}")?),
-        CellRefusal::BadChecksum { col, stated, summed } => Ok(format!(in alloc; "C13 bad checksum column {col} stated {stated} summed {summed}")?),
-        CellRefusal::HeightOutOfRange { col, row, value } => Ok(format!(in alloc; "C14 height column {col} row {row} value {value}")?),
+        CellRefusal::BadChecksum {
+            col,
+            stated,
+            summed,
+        } => Ok(format!(in alloc;
+            "C13 bad checksum column {col} stated {stated} summed {summed}"
+        )?),
+        CellRefusal::HeightOutOfRange { col, row, value } => Ok(format!(in alloc;
+            "C14 height column {col} row {row} value {value}"
+        )?),
     }
 }

@@ -8,10 +8,10 @@ mod folder_library;
 mod std_sink;
 
 use folder_library::FolderLibrary;
+use std::env;
 use std::io::ErrorKind;
 use std::process::ExitCode;
 use std::rt::Env;
-use std::env;
 use std_sink::StdSink;
 use terrain_base::{NoMemory, SureStore, Work};
 use terrain_top::{Status, run};

@@ -7,9 +7,9 @@ ghost use Rattle.terrain_top.specs.Reply.{Says, StopHasCause};
 ghost use Rattle.terrain_top.specs.Cell.{cell_reply, read_reply};
 ghost use Rattle.terrain_top.specs.Status.{IsDoneOrRefused};
 
+use crate::Status;
 use crate::answer::Answer;
 use crate::stop::Stop;
-use crate::Status;
 use dted_cell::CellView;
 use report_text::{cell_line, cell_refusal_text};
 use std::alloc::Global;
@@ -41,18 +41,28 @@ fn read_cell(alloc: Global, bytes: &[u8]) -> Result<Answer, Stop>
         Ok(view) => {
             let line = cell_line(alloc, &view)?;
             let text = format!(in alloc; "{line}\n")?;
-            Ok(Answer { status: Status::Done, text })
+            Ok(Answer {
+                status: Status::Done,
+                text,
+            })
         }
         Err(refusal) => {
             let cause = cell_refusal_text(alloc, &refusal)?;
             let text = format!(in alloc; "refused {cause}\n")?;
-            Ok(Answer { status: Status::Refused, text })
+            Ok(Answer {
+                status: Status::Refused,
+                text,
+            })
         }
     }
 }
 
 /// Reads the cell of a file and says what it is, or why it is refused.
-pub(crate) fn answer_to_cell<Li: Library>(alloc: Global, files: &mut Li, file: &str) -> Result<Answer, Stop>
+pub(crate) fn answer_to_cell<Li: Library>(
+    alloc: Global,
+    files: &mut Li,
+    file: &str,
+) -> Result<Answer, Stop>
     ensures reply { IfOk result (λ answer. IfSome (Li.holds files.old) (λ held. Says (cell_reply file.now (map.get held file.now)) answer)) }
     ensures status { IfOk result (λ answer. IsDoneOrRefused answer.status) }
     ensures same { Li.holds files.new ≡ Li.holds files.old }
@@ -62,11 +72,17 @@ pub(crate) fn answer_to_cell<Li: Library>(alloc: Global, files: &mut Li, file: &
         Fetched::Bytes(bytes) => read_cell(alloc, &bytes),
         Fetched::Absent => {
             let text = format!(in alloc; "refused F1 absent {file}\n")?;
-            Ok(Answer { status: Status::Refused, text })
+            Ok(Answer {
+                status: Status::Refused,
+                text,
+            })
         }
         Fetched::TooLong => {
             let text = format!(in alloc; "refused F2 too long {file} limit {CELL_LIMIT}\n")?;
-            Ok(Answer { status: Status::Refused, text })
+            Ok(Answer {
+                status: Status::Refused,
+                text,
+            })
         }
     }
 }

@@ -7,11 +7,11 @@ ghost use Rattle.terrain_top.specs.Status.{IsAnswer};
 ghost use Rattle.terrain_top.specs.Top.{reply_to};
 ghost use Rattle.terrain_top.specs.Words.{command_of};
 
+use crate::Status;
 use crate::answer::Answer;
 use crate::cell::answer_to_cell;
 use crate::stop::Stop;
 use crate::words::{Command, USAGE, command_in};
-use crate::Status;
 use std::alloc::Global;
 use terrain_base::{DeviceFault, Library, Sink, Store, Work};
 
@@ -28,7 +28,10 @@ fn answer_to<Li: Library>(alloc: Global, words: &[String], files: &mut Li) -> Re
         Some(Command::Cell { file }) => answer_to_cell(alloc, files, file),
         None => {
             let text = String::from_str(alloc, USAGE)?;
-            Ok(Answer { status: Status::Usage, text })
+            Ok(Answer {
+                status: Status::Usage,
+                text,
+            })
         }
     }
 }

@@ -19,7 +19,11 @@ pub(crate) fn command_in(words: &[String]) -> Option<Command<'_>>
     ensures { option_map meant result ≡ command_of (map string_bytes words.now) }
 {
     match words {
-        [_, command, file] if command.as_str() == "cell" && !file.is_empty() => Some(Command::Cell { file: file.as_str() }),
+        [_, command, file] if command.as_str() == "cell" && !file.is_empty() => Some(
+            Command::Cell {
+                file: file.as_str(),
+            },
+        ),
         _ => None,
     }
 }
