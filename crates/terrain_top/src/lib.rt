@@ -8,5 +8,8 @@ mod stop;
 mod top;
 mod words;
 
+#[cfg(test)]
+mod tests;
+
 pub use status::Status;
 pub use top::run;
