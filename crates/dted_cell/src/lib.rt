@@ -12,10 +12,9 @@ mod lead;
 mod profile;
 mod record;
 mod refusal;
-mod view;
-
 #[cfg(test)]
 mod tests;
+mod view;
 
 pub use bytes::{CellBytes, RefusedCell};
 pub use profile::ProfileView;
