@@ -17,6 +17,7 @@ mod view;
 
 #[cfg(test)]
 mod tests;
+mod view;
 
 pub use bytes::{CellBytes, RefusedCell};
 pub use profile::ProfileView;

@@ -1,8 +1,7 @@
 // Cells built by hand from the layout of their header, and what is read of them.
+use crate::{CellBytes, CellRefusal, CellView};
 use std::alloc::{AllocError, Global};
 use terrain_base::{CellLevel, Extremes, Post};
-
-use crate::{CellBytes, CellRefusal, CellView};
 
 /// What a cell of one word, but for one post, has in its header and records.
 #[derive(Clone, Copy)]
@@ -51,7 +50,10 @@ fn push_record(cell: &mut Vec<u8>, plan: &Plan, col: u16) -> Result<(), AllocErr
     let count = push_word(cell, col)?;
     let longitude = push_word(cell, col)?;
     let latitude = push_word(cell, 0)?;
-    let mut sum = 170u32.wrapping_add(count).wrapping_add(longitude).wrapping_add(latitude);
+    let mut sum = 170u32
+        .wrapping_add(count)
+        .wrapping_add(longitude)
+        .wrapping_add(latitude);
     for row in 0..plan.rows {
         let is_odd = col == plan.odd_col && row == plan.odd_row;
         let word = if is_odd { plan.odd_word } else { plan.word };
@@ -84,17 +86,29 @@ fn refusal(bytes: &[u8]) -> Option<CellRefusal> {
 /// The post of a file at a column and a row.
 fn post(bytes: &[u8], col: u16, row: u16) -> Option<Post> {
     let view = CellView::read(bytes).ok()?;
-    if col < view.columns() && row < view.rows() { Some(view.post(col, row)) } else { None }
+    if col < view.columns() && row < view.rows() {
+        Some(view.post(col, row))
+    } else {
+        None
+    }
 }
 
 /// The bytes at an offset and behind it.
 fn pair(bytes: &[u8], at: usize) -> Option<(u8, u8)> {
-    if at < 100 && at + 1 < bytes.len() { Some((bytes[at], bytes[at + 1])) } else { None }
+    if at < 100 && at + 1 < bytes.len() {
+        Some((bytes[at], bytes[at + 1]))
+    } else {
+        None
+    }
 }
 
 /// The first bytes of a file.
 fn front(bytes: &[u8], length: usize) -> &[u8] {
-    if length <= bytes.len() { &bytes[..length] } else { bytes }
+    if length <= bytes.len() {
+        &bytes[..length]
+    } else {
+        bytes
+    }
 }
 
 #[test]
@@ -106,11 +120,29 @@ fn words_are_sign_and_magnitude(rt: HostRuntime) {
         (0x3E80, Post::Metres(16000)),
     ];
     for (word, want) in posts {
-        let cell = build(rt.alloc(), &Plan { odd_word: word, ..EQUATOR }).expect(&rt, "memory");
+        let cell = build(
+            rt.alloc(),
+            &Plan {
+                odd_word: word,
+                ..EQUATOR
+            },
+        )
+        .expect(&rt, "memory");
         assert_eq!(rt; post(&cell, 5, 7), Some(want));
     }
-    let cell = build(rt.alloc(), &Plan { odd_word: 0x3E81, ..EQUATOR }).expect(&rt, "memory");
-    let want = CellRefusal::HeightOutOfRange { col: 5, row: 7, value: 16001 };
+    let cell = build(
+        rt.alloc(),
+        &Plan {
+            odd_word: 0x3E81,
+            ..EQUATOR
+        },
+    )
+    .expect(&rt, "memory");
+    let want = CellRefusal::HeightOutOfRange {
+        col: 5,
+        row: 7,
+        value: 16001,
+    };
     assert_eq!(rt; refusal(&cell), Some(want));
 }
 
@@ -118,7 +150,11 @@ fn words_are_sign_and_magnitude(rt: HostRuntime) {
 fn checksum_of_a_changed_post_is_refused(rt: HostRuntime) {
     let mut cell = build(rt.alloc(), &EQUATOR).expect(&rt, "memory");
     put(&mut cell, 3428 + 120 * 254 + 9, &[1]);
-    let want = CellRefusal::BadChecksum { col: 120, stated: 410, summed: 411 };
+    let want = CellRefusal::BadChecksum {
+        col: 120,
+        stated: 410,
+        summed: 411,
+    };
     assert_eq!(rt; refusal(&cell), Some(want));
 }
 
@@ -160,7 +196,15 @@ fn each_field_is_refused_at_its_place(rt: HostRuntime) {
         (728, b"X", CellRefusal::NoAcc),
         (3428 + 3 * 254, b"X", CellRefusal::BadSentinel { col: 3 }),
         (3428 + 3 * 254 + 5, b"X", CellRefusal::BadColumn { col: 3 }),
-        (3428 + 3 * 254 + 253, b"X", CellRefusal::BadChecksum { col: 3, stated: 88, summed: 176 }),
+        (
+            3428 + 3 * 254 + 253,
+            b"X",
+            CellRefusal::BadChecksum {
+                col: 3,
+                stated: 88,
+                summed: 176,
+            },
+        ),
     ];
     for (at, text, want) in changes {
         let mut cell = build(rt.alloc(), &EQUATOR).expect(&rt, "memory");
@@ -206,18 +250,41 @@ fn polar_cell_has_fewer_columns(rt: HostRuntime) {
     assert_eq!(rt; cell.len(), 8762);
     let view = CellView::read(&cell).ok().expect(&rt, "a cell");
     assert_eq!(rt; (view.square().lat(), view.square().lon()), (0, 180));
-    assert_eq!(rt; (view.level(), view.columns(), view.rows()), (CellLevel::Zero, 21, 121));
+    assert_eq!(rt;
+        (view.level(), view.columns(), view.rows()),
+        (CellLevel::Zero, 21, 121)
+    );
 }
 
 #[test]
 fn extremes_pass_over_voids(rt: HostRuntime) {
     let cases = [
-        (0, 0x8001, 0, Some(Extremes { least: -1, greatest: 0 })),
-        (0xFFFF, 7, 14640, Some(Extremes { least: 7, greatest: 7 })),
+        (
+            0,
+            0x8001,
+            0,
+            Some(Extremes {
+                least: -1,
+                greatest: 0,
+            }),
+        ),
+        (
+            0xFFFF,
+            7,
+            14640,
+            Some(Extremes {
+                least: 7,
+                greatest: 7,
+            }),
+        ),
         (0xFFFF, 0xFFFF, 14641, None),
     ];
     for (word, odd_word, voids, extremes) in cases {
-        let plan = Plan { word, odd_word, ..EQUATOR };
+        let plan = Plan {
+            word,
+            odd_word,
+            ..EQUATOR
+        };
         let cell = build(rt.alloc(), &plan).expect(&rt, "memory");
         let bytes = CellBytes::check(cell).ok().expect(&rt, "a cell");
         let view = bytes.view();
@@ -234,7 +301,15 @@ fn extremes_pass_over_voids(rt: HostRuntime) {
 
 #[test]
 fn refused_bytes_come_back(rt: HostRuntime) {
-    let refused = CellBytes::check(vec![in rt.alloc(); 7u8; 3].expect(&rt, "memory")).err().expect(&rt, "no cell");
-    assert_eq!(rt; refused.refusal, CellRefusal::TooShort { need: 3428, have: 3 });
+    let refused = CellBytes::check(vec![in rt.alloc(); 7u8; 3].expect(&rt, "memory"))
+        .err()
+        .expect(&rt, "no cell");
+    assert_eq!(rt;
+        refused.refusal,
+        CellRefusal::TooShort {
+            need: 3428,
+            have: 3
+        }
+    );
     assert_eq!(rt; refused.bytes.len(), 3);
 }
