@@ -1,5 +1,5 @@
 -- What each operation encloses, and that its ends are in order.
-use Rattle.std.proofs.Common.{◌≡◌, ℕ, zero, suc, ◌+◌, ◌*◌, ◌^◌, ◌<◌, ◌≤◌, refl, ap, sym, ◌∙◌, arith, Bool}
+use Rattle.std.proofs.Common.{◌≡◌, ℕ, ◌+◌, ◌*◌, ◌^◌, ◌<◌, ◌≤◌, refl, ap, ◌∙◌, arith, Bool}
 use Rattle.std.proofs.Common.{true, false, FitsSigned}
 use mir.Syntax.{w128}
 use Rattle.std.proofs.lemmas.Int.{ints, clamps, fits_signed_mul}
@@ -9,11 +9,11 @@ use Rattle.std.specs.Prelude.{ℤ, pos, negsuc, ◌+ℤ◌, ◌-ℤ◌, ◌*ℤ�
 use Rattle.std.specs.Prelude.{unsigned_abs, ◌==◌}
 use Rattle.std.specs.Int.{int_min, int_max}
 use Rattle.polynomial.proofs.Signs.{weaken}
-use Rattle.terrain_base.specs.Division.{IsFloor, IsCeil, IsRoot, floor_of, ceil_of, root_of}
+use Rattle.terrain_base.specs.Division.{IsRoot, floor_of, ceil_of, root_of}
 use Rattle.terrain_base.proofs.Quotients.{floor_is, ceil_is, root_is, root_le, neg_mul, mul_mono, mul_off}
 use Rattle.whole_interval.specs.declared.interval.Interval.{Interval}
 use Rattle.whole_interval.specs.Fraction.{Fraction, plus, minus, times, over_whole, over, negated}
-use Rattle.whole_interval.specs.Interval.{Holds, IsWithin, least_of, greatest_of, IsRootUp, root_up_of}
+use Rattle.whole_interval.specs.Interval.{Holds, least_of, greatest_of, IsRootUp, root_up_of}
 use Rattle.whole_interval.specs.Interval.{add_of, sub_of, negated_of, mul_of, div_whole_of, div_pos_of}
 use Rattle.whole_interval.specs.Interval.{sqrt_of}
 use Rattle.whole_interval.proofs.Bounds.{le_trans_z, sum_low, sum_high, neg_order, product_low}
