@@ -76,7 +76,8 @@ pub least_below : (p q r s : ℤ)
 least_below p q r s = omega (arith, ints, min_two p q, min_two r s, min_two (int_min p q) (int_min r s))
 
 pub greatest_above : (p q r s : ℤ)
-    → (p ≤ℤ greatest_of p q r s) × (q ≤ℤ greatest_of p q r s) × (r ≤ℤ greatest_of p q r s) × (s ≤ℤ greatest_of p q r s)
+    → (p ≤ℤ greatest_of p q r s) × (q ≤ℤ greatest_of p q r s) × (r ≤ℤ greatest_of p q r s)
+    × (s ≤ℤ greatest_of p q r s)
 greatest_above p q r s = omega (arith, ints, max_two p q, max_two r s, max_two (int_max p q) (int_max r s))
 
 pub mul_holds : (a b : Interval) (f g : Fraction) → Holds a f → Holds b g → Holds (mul_of a b) (times f g)

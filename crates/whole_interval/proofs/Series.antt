@@ -73,7 +73,8 @@ one_holds x = record {
 
 next_holds : (term square : Interval) (from j : ℕ) (x f : Fraction) → 0 < from → Holds term f
     → Holds square (times x x)
-    → Holds (next_of term square from j) (over_whole (times f (times x x)) ((2 * j + from) * (2 * j + from + 1)))
+    → Holds (next_of term square from j)
+    (over_whole (times f (times x x)) ((2 * j + from) * (2 * j + from + 1)))
 unfolding next_of
 next_holds term square from j x f p h g =
     div_whole_holds (mul_of term square) _ _ (omega (arith, from_two j from p))

@@ -265,7 +265,8 @@ unfolding term_of
 term_next j first square from = rw add-one refl
 
 pub partial_next : (j : ℕ) (first square : Interval) (from : ℕ)
-    → alternated_of (partial_of first square from j) (term_of first square from (j + 1)) j ≡ partial_of first square from (j + 1)
+    → alternated_of (partial_of first square from j) (term_of first square from (j + 1)) j
+    ≡ partial_of first square from (j + 1)
 unfolding partial_of
 partial_next j first square from = rw add-one refl
 

@@ -1,7 +1,8 @@
 use Rattle.std.proofs.Common.{rules, FitsSigned}
 use Rattle.std.proofs.lemmas.Int.{to_z-of_z}
 use mir.Syntax.{w128}
-use Rattle.whole_interval.proofs.Enclosures.{div_whole_holds, div_whole_is, div_whole_ordered, holds_as, ordered_as}
+use Rattle.whole_interval.proofs.Enclosures.{div_whole_holds, div_whole_is, div_whole_ordered}
+use Rattle.whole_interval.proofs.Enclosures.{holds_as, ordered_as}
 use Rattle.whole_interval.proofs.interval.div_whole.Goals as goal
 
 pub returns : goal.returns
