@@ -1,12 +1,11 @@
 -- Bounds of sums, products, quotients and roots, over whole numbers; k is the scale.
-use Rattle.std.proofs.Common.{◌≡◌, ℕ, zero, suc, ◌+◌, ◌*◌, ◌<◌, ◌≤◌, refl, ap, sym, ◌∙◌, arith, [], ◌∷◌}
-use Rattle.std.proofs.Common.{subst}
+use Rattle.std.proofs.Common.{◌≡◌, ℕ, zero, suc, ◌*◌, ◌<◌, ◌≤◌, refl, sym, ◌∙◌, arith, [], ◌∷◌}
 use Rattle.std.proofs.lemmas.Int.{ints}
 use Rattle.std.proofs.Math.Nat.{mul-le-mul_right}
-use Rattle.std.specs.Prelude.{ℤ, pos, negsuc, ◌+ℤ◌, ◌-ℤ◌, ◌*ℤ◌, ◌≤ℤ◌, ◌<ℤ◌, neg_ℤ}
-use Rattle.polynomial.proofs.Expressions.{Expr, var, num, add, sub, mul}
+use Rattle.std.specs.Prelude.{ℤ, pos, negsuc, ◌+ℤ◌, ◌*ℤ◌, ◌≤ℤ◌, ◌<ℤ◌, neg_ℤ}
+use Rattle.polynomial.proofs.Expressions.{var, add, mul}
 use Rattle.polynomial.proofs.NormalForm.{by_ring}
-use Rattle.terrain_base.specs.Division.{IsFloor, IsCeil, IsRoot}
+use Rattle.terrain_base.specs.Division.{IsFloor, IsCeil}
 use Rattle.terrain_base.proofs.Quotients.{mul_mono, mul_anti, mul_off, mul_next, root_le}
 
 pub le_trans_z : {a b c : ℤ} → a ≤ℤ b → b ≤ℤ c → a ≤ℤ c

@@ -1,5 +1,5 @@
 -- What each operation encloses, and that its ends are in order.
-use Rattle.std.proofs.Common.{◌≡◌, ℕ, zero, suc, ◌+◌, ◌*◌, ◌^◌, ◌<◌, ◌≤◌, refl, ap, sym, ◌∙◌, arith, Bool}
+use Rattle.std.proofs.Common.{◌≡◌, ℕ, ◌+◌, ◌*◌, ◌^◌, ◌<◌, ◌≤◌, refl, ap, ◌∙◌, arith, Bool}
 use Rattle.std.proofs.Common.{true, false, FitsSigned}
 use mir.Syntax.{w128}
 use Rattle.std.proofs.lemmas.Int.{ints, clamps, fits_signed_mul}
@@ -9,11 +9,11 @@ use Rattle.std.specs.Prelude.{ℤ, pos, negsuc, ◌+ℤ◌, ◌-ℤ◌, ◌*ℤ�
 use Rattle.std.specs.Prelude.{unsigned_abs, ◌==◌}
 use Rattle.std.specs.Int.{int_min, int_max}
 use Rattle.polynomial.proofs.Signs.{weaken}
-use Rattle.terrain_base.specs.Division.{IsFloor, IsCeil, IsRoot, floor_of, ceil_of, root_of}
+use Rattle.terrain_base.specs.Division.{IsRoot, floor_of, ceil_of, root_of}
 use Rattle.terrain_base.proofs.Quotients.{floor_is, ceil_is, root_is, root_le, neg_mul, mul_mono, mul_off}
 use Rattle.whole_interval.specs.declared.interval.Interval.{Interval}
 use Rattle.whole_interval.specs.Fraction.{Fraction, plus, minus, times, over_whole, over, negated}
-use Rattle.whole_interval.specs.Interval.{Holds, IsWithin, least_of, greatest_of, IsRootUp, root_up_of}
+use Rattle.whole_interval.specs.Interval.{Holds, least_of, greatest_of, IsRootUp, root_up_of}
 use Rattle.whole_interval.specs.Interval.{add_of, sub_of, negated_of, mul_of, div_whole_of, div_pos_of}
 use Rattle.whole_interval.specs.Interval.{sqrt_of}
 use Rattle.whole_interval.proofs.Bounds.{le_trans_z, sum_low, sum_high, neg_order, product_low}
@@ -76,7 +76,8 @@ pub least_below : (p q r s : ℤ)
 least_below p q r s = omega (arith, ints, min_two p q, min_two r s, min_two (int_min p q) (int_min r s))
 
 pub greatest_above : (p q r s : ℤ)
-    → (p ≤ℤ greatest_of p q r s) × (q ≤ℤ greatest_of p q r s) × (r ≤ℤ greatest_of p q r s) × (s ≤ℤ greatest_of p q r s)
+    → (p ≤ℤ greatest_of p q r s) × (q ≤ℤ greatest_of p q r s) × (r ≤ℤ greatest_of p q r s)
+    × (s ≤ℤ greatest_of p q r s)
 greatest_above p q r s = omega (arith, ints, max_two p q, max_two r s, max_two (int_max p q) (int_max r s))
 
 pub mul_holds : (a b : Interval) (f g : Fraction) → Holds a f → Holds b g → Holds (mul_of a b) (times f g)

@@ -4,7 +4,7 @@ use Rattle.std.proofs.Common.{arith, [], ◌∷◌, Bool, true, false}
 use Rattle.std.proofs.lemmas.Int.{ints}
 use Rattle.std.proofs.lemmas.Grind.{div_ceil_times}
 use Rattle.std.proofs.Math.Nat.{mul-le-mul, mul-le-mul_right, pow-suc, pow-zero}
-use Rattle.std.specs.Prelude.{ℤ, pos, negsuc, ◌+ℤ◌, ◌-ℤ◌, ◌*ℤ◌, ◌≤ℤ◌, ◌<ℤ◌, neg_ℤ, if◌then◌else◌, ◌==◌}
+use Rattle.std.specs.Prelude.{ℤ, pos, ◌*ℤ◌, ◌≤ℤ◌, neg_ℤ, if◌then◌else◌, ◌==◌}
 use Rattle.std.specs.Prelude.{nat_le, MatchBool}
 use Rattle.std.specs.Int.{div_ceil}
 use Rattle.polynomial.proofs.Expressions.{var, num, mul}
@@ -13,8 +13,7 @@ use Rattle.terrain_base.proofs.Quotients.{mul_mono, mul_off}
 use Rattle.whole_interval.specs.declared.interval.Interval.{Interval}
 use Rattle.whole_interval.specs.declared.sine_cosine.SineCosine.{SineCosine}
 use Rattle.whole_interval.specs.Fraction.{Fraction, plus, minus, times, over_whole, negated, IsAtMost}
-use Rattle.whole_interval.specs.Fraction.{IsBetween}
-use Rattle.whole_interval.specs.Interval.{Holds, add_of, sub_of, negated_of, mul_of, div_whole_of}
+use Rattle.whole_interval.specs.Interval.{Holds, add_of, sub_of, negated_of, mul_of}
 use Rattle.whole_interval.specs.HalfTurn.{one_of, angle_of, next_of, term_of, alternated_of, partial_of}
 use Rattle.whole_interval.specs.HalfTurn.{series_of, octant_sine_of, octant_cosine_of, quarter_sine_of}
 use Rattle.whole_interval.specs.HalfTurn.{quarter_cosine_of, turned_of, turn_of, pi_low, pi_high}
@@ -74,7 +73,8 @@ one_holds x = record {
 
 next_holds : (term square : Interval) (from j : ℕ) (x f : Fraction) → 0 < from → Holds term f
     → Holds square (times x x)
-    → Holds (next_of term square from j) (over_whole (times f (times x x)) ((2 * j + from) * (2 * j + from + 1)))
+    → Holds (next_of term square from j)
+    (over_whole (times f (times x x)) ((2 * j + from) * (2 * j + from + 1)))
 unfolding next_of
 next_holds term square from j x f p h g =
     div_whole_holds (mul_of term square) _ _ (omega (arith, from_two j from p))

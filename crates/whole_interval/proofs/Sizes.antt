@@ -1,14 +1,13 @@
 -- How large the ends get at each step of a half turn.
-use Rattle.std.proofs.Common.{◌≡◌, ℕ, zero, suc, ◌+◌, ◌-◌, ◌*◌, ◌/◌, ◌%◌, ◌^◌, ◌<◌, ◌≤◌, refl, ap, sym, ◌∙◌}
+use Rattle.std.proofs.Common.{◌≡◌, ℕ, zero, suc, ◌+◌, ◌-◌, ◌*◌, ◌/◌, ◌%◌, ◌^◌, ◌<◌, ◌≤◌, refl, ap}
 use Rattle.std.proofs.Common.{arith, add-one, Bool, true, false}
 use Rattle.std.proofs.lemmas.Int.{ints, clamps, by_lt_z}
 use Rattle.std.proofs.lemmas.Grind.{div_ceil_times}
 use Rattle.std.proofs.Math.Nat.{mul-le-mul, le_of_mul-le-mul_right, pow-suc, pow-le-pow_right}
-use Rattle.std.proofs.lemmas.Nat.{pow_pos}
-use Rattle.std.specs.Prelude.{ℤ, pos, negsuc, ◌+ℤ◌, ◌-ℤ◌, ◌*ℤ◌, ◌≤ℤ◌, ◌<ℤ◌, neg_ℤ, if◌then◌else◌, ◌==◌}
+use Rattle.std.specs.Prelude.{ℤ, pos, negsuc, ◌+ℤ◌, ◌-ℤ◌, ◌*ℤ◌, ◌≤ℤ◌, ◌<ℤ◌, if◌then◌else◌, ◌==◌}
 use Rattle.std.specs.Int.{int_min, int_max, div_ceil}
 use Rattle.polynomial.proofs.Signs.{times_nonneg}
-use Rattle.terrain_base.specs.Division.{IsCeil, floor_of, ceil_of}
+use Rattle.terrain_base.specs.Division.{ceil_of}
 use Rattle.terrain_base.proofs.Quotients.{apart, floor_is, ceil_is}
 use Rattle.whole_interval.specs.declared.interval.Interval.{Interval}
 use Rattle.whole_interval.specs.Interval.{IsWithin, least_of, greatest_of, add_of, sub_of, negated_of}
@@ -17,7 +16,7 @@ use Rattle.whole_interval.specs.HalfTurn.{IsUpTo, one_of, angle_of, next_of, ter
 use Rattle.whole_interval.specs.HalfTurn.{partial_of, series_of, octant_sine_of, octant_cosine_of, pi_low}
 use Rattle.whole_interval.specs.HalfTurn.{pi_high}
 use Rattle.whole_interval.proofs.Bounds.{floor_from_nought}
-use Rattle.whole_interval.proofs.Enclosures.{same_ends, add_ordered, sub_ordered, mul_ordered}
+use Rattle.whole_interval.proofs.Enclosures.{same_ends, mul_ordered}
 use Rattle.whole_interval.proofs.Enclosures.{div_whole_ordered}
 
 twice : (k : ℕ) → 2 ^ suc k ≡ 2 * 2 ^ k
@@ -266,7 +265,8 @@ unfolding term_of
 term_next j first square from = rw add-one refl
 
 pub partial_next : (j : ℕ) (first square : Interval) (from : ℕ)
-    → alternated_of (partial_of first square from j) (term_of first square from (j + 1)) j ≡ partial_of first square from (j + 1)
+    → alternated_of (partial_of first square from j) (term_of first square from (j + 1)) j
+    ≡ partial_of first square from (j + 1)
 unfolding partial_of
 partial_next j first square from = rw add-one refl
 

@@ -79,7 +79,23 @@ pub fn mul(a: &Interval, b: &Interval) -> Interval
     }
 }
 
-/// The interval over a whole number above 0.
+// A number over a whole number, rounded down.
+fn over_down(a: i128, k: u32) -> i128
+    requires { 0 < k }
+    ensures { result ≡ floor_of a (pos k) }
+{
+    floor_div(a, k as i128)
+}
+
+// A number over a whole number, rounded up.
+fn over_up(a: i128, k: u32) -> i128
+    requires { 0 < k }
+    ensures { result ≡ ceil_of a (pos k) }
+{
+    ceil_div(a, k as i128)
+}
+
+/// The quotients by a whole number above 0.
 pub fn div_whole(a: &Interval, k: u32) -> Interval
     requires ordered { a.now.lo ≤ℤ a.now.hi }
     requires divisor { 0 < k }
@@ -88,8 +104,8 @@ pub fn div_whole(a: &Interval, k: u32) -> Interval
     ensures encloses { (f : Fraction) → Holds a.now f → Holds result (over_whole f k) }
 {
     Interval {
-        lo: floor_div(a.lo, k as i128),
-        hi: ceil_div(a.hi, k as i128),
+        lo: over_down(a.lo, k),
+        hi: over_up(a.hi, k),
     }
 }
 

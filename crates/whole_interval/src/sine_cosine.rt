@@ -18,11 +18,15 @@ pub struct SineCosine {
     pub cosine: Interval,
 }
 
-// Pi in units of 2^-48, rounded down and up: it lies between these numerators over 10^20.
-const PI_LOW: u128 = 314_159_265_358_979_323_846 * 0x1_0000_0000_0000 / 100_000_000_000_000_000_000;
+// Pi lies between 314159265358979323846 and 314159265358979323847 over 10^20. In units of 2^-48 it is
+// therefore from the first of these, which is rounded down, to the second, which is rounded up.
+const SCALE: u128 = 0x1_0000_0000_0000;
 
-const PI_HIGH: u128 = 314_159_265_358_979_323_847 * 0x1_0000_0000_0000 / 100_000_000_000_000_000_000
-    + 1;
+const DIGITS: u128 = 100_000_000_000_000_000_000;
+
+const PI_LOW: u128 = 314_159_265_358_979_323_846 * SCALE / DIGITS;
+
+const PI_HIGH: u128 = 314_159_265_358_979_323_847 * SCALE / DIGITS + 1;
 
 // The angle pi * t / (2 * d).
 fn angle(t: u128, d: u128) -> Interval

@@ -1,7 +1,6 @@
-use Rattle.std.proofs.Common.{rules, FitsSigned, ◌≡◌, ◌*ℤ◌, ◌+ℤ◌, ◌-ℤ◌}
+use Rattle.std.proofs.Common.{rules, FitsSigned}
 use Rattle.std.proofs.lemmas.Int.{to_z-of_z}
 use mir.Syntax.{w128}
-use Rattle.whole_interval.specs.declared.interval.Interval.{Interval}
 use Rattle.whole_interval.proofs.Enclosures.{div_pos_holds, div_pos_is, div_pos_ordered, holds_as}
 use Rattle.whole_interval.proofs.Enclosures.{ordered_as}
 use Rattle.whole_interval.proofs.interval.div_pos.Goals as goal

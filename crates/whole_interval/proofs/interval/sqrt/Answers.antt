@@ -1,7 +1,6 @@
-use Rattle.std.proofs.Common.{rules, FitsSigned, ◌≡◌, ◌*ℤ◌, ◌+ℤ◌, ◌-ℤ◌}
+use Rattle.std.proofs.Common.{rules, FitsSigned}
 use Rattle.std.proofs.lemmas.Int.{to_z-of_z}
 use mir.Syntax.{w128}
-use Rattle.whole_interval.specs.declared.interval.Interval.{Interval}
 use Rattle.whole_interval.proofs.Enclosures.{sqrt_holds, sqrt_is, root_up_as, sqrt_ordered, sqrt_root_up}
 use Rattle.whole_interval.proofs.Enclosures.{holds_as, ordered_as}
 use Rattle.whole_interval.proofs.interval.sqrt.Goals as goal

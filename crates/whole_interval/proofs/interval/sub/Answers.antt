@@ -1,7 +1,6 @@
-use Rattle.std.proofs.Common.{rules, FitsSigned, ◌≡◌, ◌*ℤ◌, ◌+ℤ◌, ◌-ℤ◌, arith}
+use Rattle.std.proofs.Common.{rules, FitsSigned, ◌-ℤ◌}
 use Rattle.std.proofs.lemmas.Int.{to_z-of_z}
 use mir.Syntax.{w128}
-use Rattle.whole_interval.specs.declared.interval.Interval.{Interval}
 use Rattle.whole_interval.proofs.Enclosures.{sub_holds, sub_is, sub_ordered, holds_as, ordered_as}
 use Rattle.whole_interval.proofs.interval.sub.Goals as goal
 

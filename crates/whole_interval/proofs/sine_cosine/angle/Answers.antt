@@ -1,9 +1,3 @@
-use Rattle.std.proofs.Common.{◌≡◌, ◌*◌, ◌+◌, ◌/◌, ◌<◌, ◌≤◌, ◌^◌, arith, sym, ◌∙◌, pos}
-use Rattle.std.specs.Int.{div_ceil}
-use Rattle.std.proofs.lemmas.Int.{to_z_pos}
-use mir.Syntax.{w128}
-use mir.Val.{to_z}
-use Rattle.whole_interval.specs.HalfTurn.{pi_low, pi_high}
 use Rattle.whole_interval.proofs.Angle.{angle_is}
 use Rattle.whole_interval.proofs.Sizes.{angle_up_to}
 use Rattle.whole_interval.proofs.sine_cosine.angle.Goals as goal

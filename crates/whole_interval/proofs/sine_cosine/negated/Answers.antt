@@ -1,5 +1,5 @@
-use Rattle.std.proofs.Common.{rules, FitsSigned, arith, pos, ◌-ℤ◌}
-use Rattle.std.proofs.lemmas.Int.{to_z-of_z, ints}
+use Rattle.std.proofs.Common.{rules, FitsSigned, pos, ◌-ℤ◌}
+use Rattle.std.proofs.lemmas.Int.{to_z-of_z}
 use mir.Syntax.{w128}
 use Rattle.whole_interval.proofs.Sizes.{negated_within, negated_is}
 use Rattle.whole_interval.proofs.sine_cosine.negated.Goals as goal

@@ -1,6 +1,6 @@
 use Rattle.std.proofs.Common.{◌∙◌, arith}
 use Rattle.whole_interval.specs.HalfTurn.{IsUpTo}
-use Rattle.whole_interval.proofs.Sizes.{mul_up_to, octant_sine_is, one_up_to, series_within}
+use Rattle.whole_interval.proofs.Sizes.{mul_up_to, octant_sine_is, series_within}
 use Rattle.whole_interval.proofs.sine_cosine.octant_sine.Goals as goal
 
 pub series-requires-clause-square : goal.series-requires-clause-square

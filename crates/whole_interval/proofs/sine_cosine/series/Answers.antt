@@ -1,8 +1,7 @@
 use Rattle.std.proofs.Common.{rules, ◌≡◌, ◌∙◌, ◌+◌, ap, arith, refl, FitsSigned}
 use Rattle.std.proofs.lemmas.Int.{to_z-of_z}
 use mir.Syntax.{w128}
-use Rattle.whole_interval.specs.Interval.{IsWithin}
-use Rattle.whole_interval.specs.HalfTurn.{IsUpTo, alternated_of, next_of, partial_of, term_of}
+use Rattle.whole_interval.specs.HalfTurn.{alternated_of, next_of, partial_of, term_of}
 use Rattle.whole_interval.proofs.Sizes.{partial_at, partial_next, series_is, term_at, term_next}
 use Rattle.whole_interval.proofs.sine_cosine.series.Goals as goal
 
