@@ -17,7 +17,6 @@ mod view;
 
 #[cfg(test)]
 mod tests;
-mod view;
 
 pub use bytes::{CellBytes, RefusedCell};
 pub use profile::ProfileView;
