@@ -13,3 +13,5 @@ pub mod Joins
 pub mod Strips
 pub mod StripProof
 pub mod Sizes
+pub mod Heights
+pub mod Edges
