@@ -15,3 +15,6 @@ pub mod StripProof
 pub mod Sizes
 pub mod Heights
 pub mod Edges
+pub mod SweepHeights
+pub mod StripHeights
+pub mod StripFrames

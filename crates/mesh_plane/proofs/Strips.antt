@@ -50,7 +50,7 @@ pub goes_same : (h k : Point → ℤ) (a b : Point) → ((p : Point) → h p ≡
 goes_same h k a b f g = record { w = g.w; far = g.far; turns = λ p. g.turns p ∙ ap (λ i. g.w *ℤ i) (f p) }
 
 module _ {A : Type 0} (at : A → Point) where
-  south_moves : (outer inner : ℤ) (o n : A) (steps : List (Step A)) → across South (at o) ≡ outer → across South (at n) ≡ inner
+  pub south_moves : (outer inner : ℤ) (o n : A) (steps : List (Step A)) → across South (at o) ≡ outer → across South (at n) ≡ inner
       → Ascend at South outer inner o n steps → Moves at (reach South outer) (depth South outer inner) o n steps
   south_moves outer inner o n [] ho hn s = tt
   south_moves outer inner o n (Outer x ∷ steps) ho hn s =
@@ -60,7 +60,7 @@ module _ {A : Type 0} (at : A → Point) where
         (λ p. omega (arith, ints)) (goes North inner (at x) (at n) s.0 (hn, s.1)),
         ap (λ i. i -ℤ outer) s.0, south_moves outer inner o x steps ho s.0 s.2)
 
-  east_moves : (outer inner : ℤ) (o n : A) (steps : List (Step A)) → across East (at o) ≡ outer → across East (at n) ≡ inner
+  pub east_moves : (outer inner : ℤ) (o n : A) (steps : List (Step A)) → across East (at o) ≡ outer → across East (at n) ≡ inner
       → Ascend at East outer inner o n steps → Moves at (reach East outer) (depth East outer inner) o n steps
   east_moves outer inner o n [] ho hn s = tt
   east_moves outer inner o n (Outer x ∷ steps) ho hn s =
