@@ -18,3 +18,4 @@ pub mod Edges
 pub mod SweepHeights
 pub mod StripHeights
 pub mod StripFrames
+pub mod FrameHeights

@@ -84,25 +84,25 @@ module _ {A : Type 0} (at : A → Point) where
           (strip_tiles at side outer inner o n t steps l ho hn r.ascends))
 
   module _ (r q : Rect) (i : IsInner r q) (k : Corners A) (places : AreAt at r q k) where
-    sw_turn : (p : Point) → turn (at k.south_west) (at k.inner_south_west) p
+    pub sw_turn : (p : Point) → turn (at k.south_west) (at k.inner_south_west) p
         ≡ (q.west -ℤ r.west) *ℤ (p.v -ℤ r.south) -ℤ (q.south -ℤ r.south) *ℤ (p.u -ℤ r.west)
     sw_turn p =
         ap (λ j. turn j (at k.inner_south_west) p) places.south_west
         ∙ ap (λ j. turn (point r.west r.south) j p) places.inner_south_west ∙ south_west_turn r q p
 
-    se_turn : (p : Point) → turn (at k.south_east) (at k.inner_south_east) p
+    pub se_turn : (p : Point) → turn (at k.south_east) (at k.inner_south_east) p
         ≡ (q.south -ℤ r.south) *ℤ (r.east -ℤ p.u) -ℤ (r.east -ℤ q.east) *ℤ (p.v -ℤ r.south)
     se_turn p =
         ap (λ j. turn j (at k.inner_south_east) p) places.south_east
         ∙ ap (λ j. turn (point r.east r.south) j p) places.inner_south_east ∙ south_east_turn r q p
 
-    ne_turn : (p : Point) → turn (at k.north_east) (at k.inner_north_east) p
+    pub ne_turn : (p : Point) → turn (at k.north_east) (at k.inner_north_east) p
         ≡ (r.east -ℤ q.east) *ℤ (r.north -ℤ p.v) -ℤ (r.north -ℤ q.north) *ℤ (r.east -ℤ p.u)
     ne_turn p =
         ap (λ j. turn j (at k.inner_north_east) p) places.north_east
         ∙ ap (λ j. turn (point r.east r.north) j p) places.inner_north_east ∙ north_east_turn r q p
 
-    nw_turn : (p : Point) → turn (at k.north_west) (at k.inner_north_west) p
+    pub nw_turn : (p : Point) → turn (at k.north_west) (at k.inner_north_west) p
         ≡ (r.north -ℤ q.north) *ℤ (p.u -ℤ r.west) -ℤ (q.west -ℤ r.west) *ℤ (r.north -ℤ p.v)
     nw_turn p =
         ap (λ j. turn j (at k.inner_north_west) p) places.north_west

@@ -61,7 +61,7 @@ on_flip a b p α β o =
       u = ap (λ i. i *ℤ p.u) e ∙ o.u ∙ omega (arith, ints); v = ap (λ i. i *ℤ p.v) e ∙ o.v ∙ omega (arith, ints);
     }
 
-on_swapped : (a b p : Point) (α β : ℤ) → On (swapped a) (swapped b) (swapped p) α β → On a b p α β
+pub on_swapped : (a b p : Point) (α β : ℤ) → On (swapped a) (swapped b) (swapped p) α β → On a b p α β
 on_swapped a b p α β o = record { from = o.from; to = o.to; some = o.some; u = o.v; v = o.u }
 
 -- the point lies on the segment from a to b, with some weights
