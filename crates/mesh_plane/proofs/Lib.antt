@@ -19,3 +19,4 @@ pub mod SweepHeights
 pub mod StripHeights
 pub mod StripFrames
 pub mod FrameHeights
+pub mod FanHeights

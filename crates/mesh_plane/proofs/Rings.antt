@@ -19,7 +19,7 @@ abbrev pub only : Point → Rect
 only c = record { west = c.u; south = c.v; east = c.u; north = c.v }
 
 module _ {A : Type 0} (at : A → Point) where
-  fan_is : (c o : A) (rs : List A) → map shifted (sweep at o c (map Outer rs)) ≡ fan c o rs
+  pub fan_is : (c o : A) (rs : List A) → map shifted (sweep at o c (map Outer rs)) ≡ fan c o rs
   fan_is c o [] = refl
   fan_is c o (r ∷ rs) = ap (λ (ts : List (Triple A)). record { a = c; b = o; c = r } ∷ ts) (fan_is c r rs)
 
@@ -29,7 +29,7 @@ module _ {A : Type 0} (at : A → Point) where
       ap (λ (ts : List (Triple A)). record { a = c; b = o; c = x } ∷ ts) (fan_append c x e xs rs)
 
   -- the triangles of one side
-  side_tiles : (side : Side) (line : ℤ) (c o e : A) (xs : List A) (A₁ B₁ : Point → ℤ) (m a b : ℤ)
+  pub side_tiles : (side : Side) (line : ℤ) (c o e : A) (xs : List A) (A₁ B₁ : Point → ℤ) (m a b : ℤ)
       → reach side line (at c) ≡ m → pos 0 <ℤ m → across side (at o) ≡ line → Follow at side line o (xs ++ e ∷ [])
       → ((p : Point) → turn (at o) (at c) p ≡ a *ℤ reach side line p -ℤ m *ℤ A₁ p)
       → ((p : Point) → turn (at e) (at c) p ≡ m *ℤ B₁ p -ℤ b *ℤ reach side line p)
