@@ -1,16 +1,16 @@
 -- A triangle meets a point where it holds it and has its height there. Two lists of triangles with a common edge agree at
 -- its points.
-use Rattle.std.proofs.Common.{◌≡◌, refl, ap, sym, arith, ◌∙◌, List, [], ◌∷◌, ◌++◌, inl, inr}
+use Rattle.std.proofs.Common.{◌≡◌, refl, ap, arith, ◌∙◌, List, [], ◌∷◌, ◌++◌, inl, inr}
 use Rattle.std.specs.Prelude.{ℤ, pos, ◌+ℤ◌, ◌-ℤ◌, ◌*ℤ◌, ◌≤ℤ◌, ◌<ℤ◌, ◌⊎◌}
 use Rattle.std.specs.List.{AllByRecursion}
 use Rattle.std.proofs.lemmas.Int.{ints}
-use Rattle.polynomial.proofs.Expressions.{Expr, var, num, add, sub, mul}
+use Rattle.polynomial.proofs.Expressions.{var, num, add, sub, mul}
 use Rattle.polynomial.proofs.NormalForm.{by_ring}
 use Rattle.polynomial.proofs.Signs.{times_nonneg, factor_nonneg, weaken}
 use Rattle.mesh_plane.specs.Plane.{Point}
 use Rattle.mesh_plane.specs.Triangles.{Triple, fan}
 use Rattle.mesh_plane.proofs.Turns.{turn, turned, turned_points, points, turned_on, turn_at_first, turn_at_second, three_sides}
-use Rattle.mesh_plane.proofs.Tilings.{IsCcw, area, Within, Held}
+use Rattle.mesh_plane.proofs.Tilings.{IsCcw, area, Within}
 use Rattle.mesh_plane.proofs.Heights.{lift, AtLevel, OneLevel, Cross, Shown, spread, cross_levels}
 
 -- the point lies on the segment from a to b, with these weights
@@ -25,19 +25,19 @@ pub record On (a b p : Point) (α β : ℤ) : Type 0 where
 pub weighed : (d e a b p : Point) (α β : ℤ) → On a b p α β → (α +ℤ β) *ℤ turn d e p ≡ α *ℤ turn d e a +ℤ β *ℤ turn d e b
 weighed d e a b p α β o =
     by_ring (mul (add (var 0) (var 1)) (turned (var 2) (var 3) (var 4) (var 5) (var 6) (var 7)))
-      (sub
-        (mul (sub (var 4) (var 2)) (sub (mul (add (var 0) (var 1)) (var 7)) (mul (add (var 0) (var 1)) (var 3))))
-        (mul (sub (var 5) (var 3)) (sub (mul (add (var 0) (var 1)) (var 6)) (mul (add (var 0) (var 1)) (var 2)))))
-      (α ∷ β ∷ points (d ∷ e ∷ p ∷ [])) refl
+    (sub
+    (mul (sub (var 4) (var 2)) (sub (mul (add (var 0) (var 1)) (var 7)) (mul (add (var 0) (var 1)) (var 3))))
+    (mul (sub (var 5) (var 3)) (sub (mul (add (var 0) (var 1)) (var 6)) (mul (add (var 0) (var 1)) (var 2)))))
+    (α ∷ β ∷ points (d ∷ e ∷ p ∷ [])) refl
     ∙ ap (λ i. (e.u -ℤ d.u) *ℤ (i -ℤ (α +ℤ β) *ℤ d.v) -ℤ (e.v -ℤ d.v) *ℤ ((α +ℤ β) *ℤ p.u -ℤ (α +ℤ β) *ℤ d.u)) o.v
     ∙ ap (λ i. (e.u -ℤ d.u) *ℤ ((α *ℤ a.v +ℤ β *ℤ b.v) -ℤ (α +ℤ β) *ℤ d.v) -ℤ (e.v -ℤ d.v) *ℤ (i -ℤ (α +ℤ β) *ℤ d.u)) o.u
     ∙ by_ring
-      (sub
-        (mul (sub (var 4) (var 2)) (sub (add (mul (var 0) (var 7)) (mul (var 1) (var 9))) (mul (add (var 0) (var 1)) (var 3))))
-        (mul (sub (var 5) (var 3)) (sub (add (mul (var 0) (var 6)) (mul (var 1) (var 8))) (mul (add (var 0) (var 1)) (var 2)))))
-      (add (mul (var 0) (turned (var 2) (var 3) (var 4) (var 5) (var 6) (var 7)))
-        (mul (var 1) (turned (var 2) (var 3) (var 4) (var 5) (var 8) (var 9))))
-      (α ∷ β ∷ points (d ∷ e ∷ a ∷ b ∷ [])) refl
+    (sub
+    (mul (sub (var 4) (var 2)) (sub (add (mul (var 0) (var 7)) (mul (var 1) (var 9))) (mul (add (var 0) (var 1)) (var 3))))
+    (mul (sub (var 5) (var 3)) (sub (add (mul (var 0) (var 6)) (mul (var 1) (var 8))) (mul (add (var 0) (var 1)) (var 2)))))
+    (add (mul (var 0) (turned (var 2) (var 3) (var 4) (var 5) (var 6) (var 7)))
+    (mul (var 1) (turned (var 2) (var 3) (var 4) (var 5) (var 8) (var 9))))
+    (α ∷ β ∷ points (d ∷ e ∷ a ∷ b ∷ [])) refl
 
 side_in : (α β x y w : ℤ) → pos 0 <ℤ (α +ℤ β) → pos 0 ≤ℤ α → pos 0 ≤ℤ β → pos 0 ≤ℤ x → pos 0 ≤ℤ y
     → (α +ℤ β) *ℤ w ≡ α *ℤ x +ℤ β *ℤ y → pos 0 ≤ℤ w
@@ -47,7 +47,9 @@ side_in α β x y w m a b h k e =
 -- a point is on the segment from it to itself
 pub on_itself : (p : Point) → On p p p (pos 1) (pos 0)
 on_itself p = record {
-  from = omega (arith, ints); to = omega (arith, ints); some = omega (arith, ints);
+  from = omega (arith, ints);
+  to = omega (arith, ints);
+  some = omega (arith, ints);
   u = by_ring (mul (add (num 1) (num 0)) (var 0)) (add (mul (num 1) (var 0)) (mul (num 0) (var 0))) (p.u ∷ []) refl;
   v = by_ring (mul (add (num 1) (num 0)) (var 0)) (add (mul (num 1) (var 0)) (mul (num 0) (var 0))) (p.v ∷ []) refl;
 }
@@ -58,19 +60,19 @@ by_areas : (x a b c w₁ w₂ w₃ m : ℤ) → m *ℤ x ≡ (w₁ *ℤ a +ℤ w
 by_areas x a b c w₁ w₂ w₃ m e f g =
     ap (λ i. i *ℤ x) g ∙ e ∙ ap (λ i. (i *ℤ a +ℤ w₂ *ℤ b) +ℤ w₃ *ℤ c) f
     ∙ by_ring (add (add (mul (num 0) (var 0)) (mul (var 1) (var 2))) (mul (var 3) (var 4))) (add (mul (var 1) (var 2)) (mul (var 3) (var 4)))
-      (a ∷ w₂ ∷ b ∷ w₃ ∷ c ∷ []) refl
+    (a ∷ w₂ ∷ b ∷ w₃ ∷ c ∷ []) refl
 
 areas_u : (a b c p : Point) → turn a b c *ℤ p.u ≡ (turn b c p *ℤ a.u +ℤ turn c a p *ℤ b.u) +ℤ turn a b p *ℤ c.u
 areas_u a b c p =
     by_ring (mul (turned_points 0 1 2) (var 6))
-      (add (add (mul (turned_points 1 2 3) (var 0)) (mul (turned_points 2 0 3) (var 2))) (mul (turned_points 0 1 3) (var 4)))
-      (points (a ∷ b ∷ c ∷ p ∷ [])) refl
+    (add (add (mul (turned_points 1 2 3) (var 0)) (mul (turned_points 2 0 3) (var 2))) (mul (turned_points 0 1 3) (var 4)))
+    (points (a ∷ b ∷ c ∷ p ∷ [])) refl
 
 areas_v : (a b c p : Point) → turn a b c *ℤ p.v ≡ (turn b c p *ℤ a.v +ℤ turn c a p *ℤ b.v) +ℤ turn a b p *ℤ c.v
 areas_v a b c p =
     by_ring (mul (turned_points 0 1 2) (var 7))
-      (add (add (mul (turned_points 1 2 3) (var 1)) (mul (turned_points 2 0 3) (var 3))) (mul (turned_points 0 1 3) (var 5)))
-      (points (a ∷ b ∷ c ∷ p ∷ [])) refl
+    (add (add (mul (turned_points 1 2 3) (var 1)) (mul (turned_points 2 0 3) (var 3))) (mul (turned_points 0 1 3) (var 5)))
+    (points (a ∷ b ∷ c ∷ p ∷ [])) refl
 
 -- what a triangle a, b, c holds on its side from b to c lies on that segment
 pub on_side : (a b c p : Point) → pos 0 <ℤ turn a b c → turn b c p ≡ pos 0 → pos 0 ≤ℤ turn c a p → pos 0 ≤ℤ turn a b p
@@ -78,7 +80,9 @@ pub on_side : (a b c p : Point) → pos 0 <ℤ turn a b c → turn b c p ≡ pos
 on_side a b c p h e k l =
     let sum : turn c a p +ℤ turn a b p ≡ turn a b c = omega (arith, ints, three_sides a b c p, e) in
     record {
-      from = k; to = l; some = omega (arith, ints, sum, h);
+      from = k;
+      to = l;
+      some = omega (arith, ints, sum, h);
       u = by_areas p.u a.u b.u c.u (turn b c p) (turn c a p) (turn a b p) (turn a b c) (areas_u a b c p) e sum;
       v = by_areas p.v a.v b.v c.v (turn b c p) (turn c a p) (turn a b p) (turn a b c) (areas_v a b c p) e sum;
     }
@@ -108,11 +112,11 @@ module _ {A : Type 0} (at : A → Point) where
   pub on_within : (t : Triple A) (a b p : Point) (α β : ℤ) → On a b p α β → Within at t a → Within at t b → Within at t p
   on_within t a b p α β o h k = record {
     ab = side_in α β (turn (at t.a) (at t.b) a) (turn (at t.a) (at t.b) b) (turn (at t.a) (at t.b) p) o.some o.from o.to h.ab k.ab
-          (weighed (at t.a) (at t.b) a b p α β o);
+        (weighed (at t.a) (at t.b) a b p α β o);
     bc = side_in α β (turn (at t.b) (at t.c) a) (turn (at t.b) (at t.c) b) (turn (at t.b) (at t.c) p) o.some o.from o.to h.bc k.bc
-          (weighed (at t.b) (at t.c) a b p α β o);
+        (weighed (at t.b) (at t.c) a b p α β o);
     ca = side_in α β (turn (at t.c) (at t.a) a) (turn (at t.c) (at t.a) b) (turn (at t.c) (at t.a) p) o.some o.from o.to h.ca k.ca
-          (weighed (at t.c) (at t.a) a b p α β o);
+        (weighed (at t.c) (at t.a) a b p α β o);
   }
 
   module _ (z : A → ℤ) where
@@ -129,22 +133,22 @@ module _ {A : Type 0} (at : A → Point) where
         let f = weighed b c (at d) (at e) p α β o in let g = weighed c a (at d) (at e) p α β o in let i = weighed a b (at d) (at e) p α β o in
         let bd = turn b c (at d) in let be = turn b c (at e) in let cd = turn c a (at d) in let ce = turn c a (at e) in
         by_ring (mul (add (add (mul (var 0) (var 1)) (mul (var 2) (var 3))) (mul (var 4) (var 5))) (var 6))
-          (add (add (mul (var 0) (mul (var 6) (var 1))) (mul (var 2) (mul (var 6) (var 3)))) (mul (var 4) (mul (var 6) (var 5))))
-          (z t.a ∷ turn b c p ∷ z t.b ∷ turn c a p ∷ z t.c ∷ turn a b p ∷ (α +ℤ β) ∷ []) refl
+        (add (add (mul (var 0) (mul (var 6) (var 1))) (mul (var 2) (mul (var 6) (var 3)))) (mul (var 4) (mul (var 6) (var 5))))
+        (z t.a ∷ turn b c p ∷ z t.b ∷ turn c a p ∷ z t.c ∷ turn a b p ∷ (α +ℤ β) ∷ []) refl
         ∙ ap (λ n. (z t.a *ℤ n +ℤ z t.b *ℤ ((α +ℤ β) *ℤ turn c a p)) +ℤ z t.c *ℤ ((α +ℤ β) *ℤ turn a b p)) f
         ∙ ap (λ n. (z t.a *ℤ (α *ℤ bd +ℤ β *ℤ be) +ℤ z t.b *ℤ n) +ℤ z t.c *ℤ ((α +ℤ β) *ℤ turn a b p)) g
         ∙ ap (λ n. (z t.a *ℤ (α *ℤ bd +ℤ β *ℤ be) +ℤ z t.b *ℤ (α *ℤ cd +ℤ β *ℤ ce)) +ℤ z t.c *ℤ n) i
         ∙ by_ring
-          (add
-            (add (mul (var 0) (add (mul (var 3) (var 5)) (mul (var 4) (var 6)))) (mul (var 1) (add (mul (var 3) (var 7)) (mul (var 4) (var 8)))))
-            (mul (var 2) (add (mul (var 3) (var 9)) (mul (var 4) (var 10)))))
-          (add (mul (var 3) (add (add (mul (var 0) (var 5)) (mul (var 1) (var 7))) (mul (var 2) (var 9))))
-            (mul (var 4) (add (add (mul (var 0) (var 6)) (mul (var 1) (var 8))) (mul (var 2) (var 10)))))
-          (z t.a ∷ z t.b ∷ z t.c ∷ α ∷ β ∷ bd ∷ be ∷ cd ∷ ce ∷ turn a b (at d) ∷ turn a b (at e) ∷ []) refl
+        (add
+        (add (mul (var 0) (add (mul (var 3) (var 5)) (mul (var 4) (var 6)))) (mul (var 1) (add (mul (var 3) (var 7)) (mul (var 4) (var 8)))))
+        (mul (var 2) (add (mul (var 3) (var 9)) (mul (var 4) (var 10)))))
+        (add (mul (var 3) (add (add (mul (var 0) (var 5)) (mul (var 1) (var 7))) (mul (var 2) (var 9))))
+        (mul (var 4) (add (add (mul (var 0) (var 6)) (mul (var 1) (var 8))) (mul (var 2) (var 10)))))
+        (z t.a ∷ z t.b ∷ z t.c ∷ α ∷ β ∷ bd ∷ be ∷ cd ∷ ce ∷ turn a b (at d) ∷ turn a b (at e) ∷ []) refl
         ∙ ap (λ n. α *ℤ n +ℤ β *ℤ lift at z t (at e)) h.level
         ∙ ap (λ n. α *ℤ (z d *ℤ area at t) +ℤ β *ℤ n) k.level
         ∙ by_ring (add (mul (var 0) (mul (var 1) (var 4))) (mul (var 2) (mul (var 3) (var 4))))
-          (mul (add (mul (var 0) (var 1)) (mul (var 2) (var 3))) (var 4)) (α ∷ z d ∷ β ∷ z e ∷ area at t ∷ []) refl
+        (mul (add (mul (var 0) (var 1)) (mul (var 2) (var 3))) (var 4)) (α ∷ z d ∷ β ∷ z e ∷ area at t ∷ []) refl
 
     -- ---- a triangle meets its corners
     pub meets_a : (t : Triple A) → pos 0 <ℤ area at t → Meets t t.a
@@ -153,7 +157,8 @@ module _ {A : Type 0} (at : A → Point) where
         record {
           holds = record { ab = omega (arith, ints, g); bc = omega (arith, ints, e, h); ca = omega (arith, ints, f) };
           level = at_a (z t.a) (z t.b) (z t.c) (area at t) (turn (at t.b) (at t.c) (at t.a)) (turn (at t.c) (at t.a) (at t.a))
-                (turn (at t.a) (at t.b) (at t.a)) e f g }
+              (turn (at t.a) (at t.b) (at t.a)) e f g;
+        }
 
     pub meets_b : (t : Triple A) → pos 0 <ℤ area at t → Meets t t.b
     meets_b t h =
@@ -162,7 +167,8 @@ module _ {A : Type 0} (at : A → Point) where
         record {
           holds = record { ab = omega (arith, ints, g); bc = omega (arith, ints, e); ca = omega (arith, ints, f, h) };
           level = at_b (z t.a) (z t.b) (z t.c) (area at t) (turn (at t.b) (at t.c) (at t.b)) (turn (at t.c) (at t.a) (at t.b))
-                (turn (at t.a) (at t.b) (at t.b)) e f g }
+              (turn (at t.a) (at t.b) (at t.b)) e f g;
+        }
 
     pub meets_c : (t : Triple A) → pos 0 <ℤ area at t → Meets t t.c
     meets_c t h =
@@ -170,7 +176,8 @@ module _ {A : Type 0} (at : A → Point) where
         record {
           holds = record { ab = weaken h; bc = omega (arith, ints, e); ca = omega (arith, ints, f) };
           level = at_c (z t.a) (z t.b) (z t.c) (area at t) (turn (at t.b) (at t.c) (at t.c)) (turn (at t.c) (at t.a) (at t.c))
-                (turn (at t.a) (at t.b) (at t.c)) e f refl }
+              (turn (at t.a) (at t.b) (at t.c)) e f refl;
+        }
 
     -- ---- edges of a list
     -- some triangle has the edge from d to e
@@ -211,7 +218,7 @@ module _ {A : Type 0} (at : A → Point) where
     edge_cross d e p α β ts us o h k f g =
         let m = α +ℤ β in let l = α *ℤ z d +ℤ β *ℤ z e in
         cross_levels at z p m l ts us o.some (spread at z p m l ts f (edge_shown d e p α β ts o h))
-          (spread at z p m l us g (edge_shown d e p α β us o k))
+        (spread at z p m l us g (edge_shown d e p α β us o k))
 
     -- ---- lines of edges
     -- the point lies on one of the edges

@@ -1,32 +1,33 @@
 -- A frame of four strips, and the rectangle inside it, have one height at each point.
 use Rattle.std.proofs.Common.{◌≡◌, refl, ap, sym, arith, ◌∙◌, List, [], ◌∷◌, ◌++◌, inl, inr, subst}
-use Rattle.std.specs.Prelude.{ℤ, pos, ◌+ℤ◌, ◌-ℤ◌, ◌*ℤ◌, ◌≤ℤ◌, ◌<ℤ◌, ◌⊎◌}
+use Rattle.std.specs.Prelude.{ℤ, ◌+ℤ◌, ◌-ℤ◌, ◌*ℤ◌, ◌≤ℤ◌, ◌<ℤ◌}
 use Rattle.std.specs.List.{AllByRecursion}
 use Rattle.std.proofs.lemmas.Int.{ints, by_lt_z}
-use Rattle.polynomial.proofs.Expressions.{Expr, var, num, add, sub, mul}
+use Rattle.polynomial.proofs.Expressions.{var, add, sub, mul}
 use Rattle.polynomial.proofs.NormalForm.{by_ring}
-use Rattle.mesh_plane.specs.Plane.{Point, point}
-use Rattle.mesh_plane.specs.Triangles.{Triple, Side, South, East, North, West, Step, Outer, Inner, strip, outer_end, inner_end}
+use Rattle.mesh_plane.specs.Plane.{Point}
+use Rattle.mesh_plane.specs.Triangles.{Triple, Side, South, East, North, West, Step, Outer, Inner, strip, inner_end}
 use Rattle.mesh_plane.specs.Fan.{Rect, InRect, InsideRect}
-use Rattle.mesh_plane.specs.Strip.{along, across, IsOutside, Ascend}
-use Rattle.mesh_plane.proofs.Turns.{turn}
+use Rattle.mesh_plane.specs.Strip.{along, across, Ascend}
 use Rattle.mesh_plane.proofs.Moves.{swapped}
 use Rattle.mesh_plane.proofs.Tilings.{IsCcw, Held, Tiling}
-use Rattle.mesh_plane.proofs.Frames.{SouthSector, EastSector, NorthSector, WestSector, IsInner}
+use Rattle.mesh_plane.proofs.Frames.{IsInner}
 use Rattle.mesh_plane.proofs.StripFrames.{Corners, AreAt, Runs, south_strip, east_strip, north_strip, west_strip, sw_turn, se_turn, ne_turn, nw_turn}
 use Rattle.mesh_plane.proofs.Heights.{OneLevel, Cross, cross_when}
-use Rattle.mesh_plane.proofs.Edges.{Edge, On, HasEdge, Shows, Met, line_crosses, chain}
+use Rattle.mesh_plane.proofs.Edges.{On, HasEdge, Shows, Met, line_crosses, chain}
 use Rattle.mesh_plane.proofs.StripHeights.{IsOn, on_swapped, inners, strip_one, shows_inner, first_edge, last_edge, segment_cross, five_levels}
 
 -- ---- points of a line along an axis
 level_on : (a b p : Point) → b.v ≡ a.v → p.v ≡ a.v → a.u <ℤ b.u → a.u ≤ℤ p.u → p.u ≤ℤ b.u → On a b p (b.u -ℤ p.u) (p.u -ℤ a.u)
 level_on a b p e f l from to = record {
-  from = omega (arith, ints, to); to = omega (arith, ints, from); some = omega (arith, ints, l);
+  from = omega (arith, ints, to);
+  to = omega (arith, ints, from);
+  some = omega (arith, ints, l);
   u = by_ring (mul (add (sub (var 1) (var 2)) (sub (var 2) (var 0))) (var 2)) (add (mul (sub (var 1) (var 2)) (var 0)) (mul (sub (var 2) (var 0)) (var 1)))
-        (a.u ∷ b.u ∷ p.u ∷ []) refl;
+      (a.u ∷ b.u ∷ p.u ∷ []) refl;
   v = ap (λ i. ((b.u -ℤ p.u) +ℤ (p.u -ℤ a.u)) *ℤ i) f
       ∙ by_ring (mul (add (sub (var 1) (var 2)) (sub (var 2) (var 0))) (var 3)) (add (mul (sub (var 1) (var 2)) (var 3)) (mul (sub (var 2) (var 0)) (var 3)))
-        (a.u ∷ b.u ∷ p.u ∷ a.v ∷ []) refl
+      (a.u ∷ b.u ∷ p.u ∷ a.v ∷ []) refl
       ∙ ap (λ i. (b.u -ℤ p.u) *ℤ a.v +ℤ (p.u -ℤ a.u) *ℤ i) (sym e);
 }
 
@@ -68,8 +69,8 @@ module _ {A : Type 0} (at : A → Point) where
     chain_met p side line o [] eo c ep from to l = absurd (omega (arith, ints, l))
     chain_met p side line o (r ∷ rs) eo c ep from to l =
         by_lt_z (along side (at r)) (along side p)
-          (λ h. inr (chain_met p side line r rs c.0 c.2 ep (omega (arith, ints, h)) to (omega (arith, ints, h, to))))
-          (λ h. inl (line_on side line (at o) (at r) p eo c.0 ep c.1 from h))
+        (λ h. inr (chain_met p side line r rs c.0 c.2 ep (omega (arith, ints, h)) to (omega (arith, ints, h, to))))
+        (λ h. inl (line_on side line (at o) (at r) p eo c.0 ep c.1 from h))
 
     -- two lists that show one chain along a line, and meet in points of it
     pub chain_cross : (p : Point) (side : Side) (line : ℤ) (o : A) (rs : List A) (ts us : List (Triple A)) → across side (at o) ≡ line
@@ -78,8 +79,8 @@ module _ {A : Type 0} (at : A → Point) where
         → Shows at z (chain o rs) ts → Shows at z (chain o rs) us → OneLevel at z p ts → OneLevel at z p us → Cross at z p ts us
     chain_cross p side line o rs ts us eo c l f a b one two =
         cross_when at z p ts us (λ i j.
-          let k = f i j in
-          line_crosses at z p (chain o rs) ts us (chain_met p side line o rs eo c k.0 k.1 k.2 l) a b one two)
+        let k = f i j in
+        line_crosses at z p (chain o rs) ts us (chain_met p side line o rs eo c k.0 k.1 k.2 l) a b one two)
 
     module _ (r q : Rect) (i : IsInner r q) (wide : q.west <ℤ q.east) (high : q.south <ℤ q.north) (k : Corners A) (places : AreAt at r q k)
         (t₁ t₂ t₃ t₄ : Step A) (s₁ s₂ s₃ s₄ : List (Step A))
@@ -104,7 +105,7 @@ module _ {A : Type 0} (at : A → Point) where
       ends side outer inner o n o' n' t steps run c =
           let ts = strip side o n (t ∷ steps) in
           subst (λ (x : A). HasEdge at z o' x ts) run.inner_to
-            (subst (λ (x : A). HasEdge at z x (inner_end n (t ∷ steps)) ts) run.outer_to (last_edge at z side o n t steps c))
+          (subst (λ (x : A). HasEdge at z x (inner_end n (t ∷ steps)) ts) run.outer_to (last_edge at z side o n t steps c))
 
       -- the inner line of a strip ends at an inner corner
       line_end : (side : Side) (outer inner : ℤ) (o n o' n' : A) (t : Step A) (steps : List (Step A)) (run : Runs at side outer inner o n o' n' t steps)
@@ -127,31 +128,31 @@ module _ {A : Type 0} (at : A → Point) where
           let on = strip_one at z p North r.north q.north k.north_west k.inner_north_west t₃ s₃ i.north onw inw r₃.ascends in
           let ow = strip_one at z p West r.west q.west k.south_west k.inner_south_west t₄ s₄ i.west wsw wiw r₄.ascends in
           let se = segment_cross at z p South r.south q.south k.south_east k.inner_south_east south_list east_list i.south
-                (ap (λ j. j.v) places.south_east) (ap (λ j. j.v) places.inner_south_east)
-                (λ a. ((hs.within p a).above, (hs.within p a).below))
-                (λ a b. omega (arith, ints, se_turn at r q i k places p, (hs.within p a).second, (he.within p b).first))
-                (ends South r.south q.south k.south_west k.inner_south_west k.south_east k.inner_south_east t₁ s₁ r₁ hs.ccw)
-                (first_edge at z East k.south_east k.inner_south_east t₂ s₂ he.ccw) os oe in
+          (ap (λ j. j.v) places.south_east) (ap (λ j. j.v) places.inner_south_east)
+          (λ a. ((hs.within p a).above, (hs.within p a).below))
+          (λ a b. omega (arith, ints, se_turn at r q i k places p, (hs.within p a).second, (he.within p b).first))
+          (ends South r.south q.south k.south_west k.inner_south_west k.south_east k.inner_south_east t₁ s₁ r₁ hs.ccw)
+          (first_edge at z East k.south_east k.inner_south_east t₂ s₂ he.ccw) os oe in
           let sw = segment_cross at z p South r.south q.south k.south_west k.inner_south_west south_list west_list i.south osw isw
-                (λ a. ((hs.within p a).above, (hs.within p a).below))
-                (λ a b. omega (arith, ints, sw_turn at r q i k places p, (hs.within p a).first, (hw.within p b).second))
-                (first_edge at z South k.south_west k.inner_south_west t₁ s₁ hs.ccw)
-                (first_edge at z West k.south_west k.inner_south_west t₄ s₄ hw.ccw) os ow in
+          (λ a. ((hs.within p a).above, (hs.within p a).below))
+          (λ a b. omega (arith, ints, sw_turn at r q i k places p, (hs.within p a).first, (hw.within p b).second))
+          (first_edge at z South k.south_west k.inner_south_west t₁ s₁ hs.ccw)
+          (first_edge at z West k.south_west k.inner_south_west t₄ s₄ hw.ccw) os ow in
           let en = segment_cross at z p East r.east q.east k.north_east k.inner_north_east east_list north_list i.east
-                (ap (λ j. j.u) places.north_east) (ap (λ j. j.u) places.inner_north_east)
-                (λ a. ((he.within p a).above, (he.within p a).below))
-                (λ a b. omega (arith, ints, ne_turn at r q i k places p, (he.within p a).second, (hn.within p b).first))
-                (ends East r.east q.east k.south_east k.inner_south_east k.north_east k.inner_north_east t₂ s₂ r₂ he.ccw)
-                (ends North r.north q.north k.north_west k.inner_north_west k.north_east k.inner_north_east t₃ s₃ r₃ hn.ccw) oe on in
+          (ap (λ j. j.u) places.north_east) (ap (λ j. j.u) places.inner_north_east)
+          (λ a. ((he.within p a).above, (he.within p a).below))
+          (λ a b. omega (arith, ints, ne_turn at r q i k places p, (he.within p a).second, (hn.within p b).first))
+          (ends East r.east q.east k.south_east k.inner_south_east k.north_east k.inner_north_east t₂ s₂ r₂ he.ccw)
+          (ends North r.north q.north k.north_west k.inner_north_west k.north_east k.inner_north_east t₃ s₃ r₃ hn.ccw) oe on in
           let nw = segment_cross at z p North r.north q.north k.north_west k.inner_north_west north_list west_list i.north onw inw
-                (λ a. ((hn.within p a).above, (hn.within p a).below))
-                (λ a b. omega (arith, ints, nw_turn at r q i k places p, (hn.within p a).second, (hw.within p b).first))
-                (first_edge at z North k.north_west k.inner_north_west t₃ s₃ hn.ccw)
-                (ends West r.west q.west k.south_west k.inner_south_west k.north_west k.inner_north_west t₄ s₄ r₄ hw.ccw) on ow in
+          (λ a. ((hn.within p a).above, (hn.within p a).below))
+          (λ a b. omega (arith, ints, nw_turn at r q i k places p, (hn.within p a).second, (hw.within p b).first))
+          (first_edge at z North k.north_west k.inner_north_west t₃ s₃ hn.ccw)
+          (ends West r.west q.west k.south_west k.inner_south_west k.north_west k.inner_north_west t₄ s₄ r₄ hw.ccw) on ow in
           let sn : Cross at z p south_list north_list = cross_when at z p south_list north_list
-                (λ a b. absurd (omega (arith, ints, high, (hs.within p a).below, (hn.within p b).below))) in
+          (λ a b. absurd (omega (arith, ints, high, (hs.within p a).below, (hn.within p b).below))) in
           let ew : Cross at z p east_list west_list = cross_when at z p east_list west_list
-                (λ a b. absurd (omega (arith, ints, wide, (he.within p a).below, (hw.within p b).below))) in
+          (λ a b. absurd (omega (arith, ints, wide, (he.within p a).below, (hw.within p b).below))) in
           let e₁ = line_end South r.south q.south k.south_west k.inner_south_west k.south_east k.inner_south_east t₁ s₁ r₁ ∙ places.inner_south_east in
           let e₂ = line_end East r.east q.east k.south_east k.inner_south_east k.north_east k.inner_north_east t₂ s₂ r₂ ∙ places.inner_north_east in
           let e₃ = line_end North r.north q.north k.north_west k.inner_north_west k.north_east k.inner_north_east t₃ s₃ r₃ ∙ places.inner_north_east in
@@ -160,23 +161,23 @@ module _ {A : Type 0} (at : A → Point) where
           let f₁ = ap (λ j. j.u) places.inner_south_west in let f₂ = ap (λ j. j.v) places.inner_south_east in
           let f₃ = ap (λ j. j.u) places.inner_north_west in let f₄ = ap (λ j. j.v) places.inner_south_west in
           let sc = chain_cross p South q.south k.inner_south_west (inners (t₁ ∷ s₁)) south_list qs isw
-                (inners_climb South r.south q.south k.south_west k.inner_south_west (t₁ ∷ s₁) r₁.ascends) (omega (arith, ints, f₁, u₁, wide))
-                (λ a b. let m = hq.within p b in
-                  (omega (arith, ints, (hs.within p a).below, m.south), omega (arith, ints, f₁, m.west), omega (arith, ints, u₁, m.east)))
-                (shows_inner at z South k.south_west k.inner_south_west (t₁ ∷ s₁) hs.ccw) sq os oq in
+          (inners_climb South r.south q.south k.south_west k.inner_south_west (t₁ ∷ s₁) r₁.ascends) (omega (arith, ints, f₁, u₁, wide))
+          (λ a b. let m = hq.within p b in
+          (omega (arith, ints, (hs.within p a).below, m.south), omega (arith, ints, f₁, m.west), omega (arith, ints, u₁, m.east)))
+          (shows_inner at z South k.south_west k.inner_south_west (t₁ ∷ s₁) hs.ccw) sq os oq in
           let ec = chain_cross p East q.east k.inner_south_east (inners (t₂ ∷ s₂)) east_list qs ise
-                (inners_climb East r.east q.east k.south_east k.inner_south_east (t₂ ∷ s₂) r₂.ascends) (omega (arith, ints, f₂, v₂, high))
-                (λ a b. let m = hq.within p b in
-                  (omega (arith, ints, (he.within p a).below, m.east), omega (arith, ints, f₂, m.south), omega (arith, ints, v₂, m.north)))
-                (shows_inner at z East k.south_east k.inner_south_east (t₂ ∷ s₂) he.ccw) eq oe oq in
+          (inners_climb East r.east q.east k.south_east k.inner_south_east (t₂ ∷ s₂) r₂.ascends) (omega (arith, ints, f₂, v₂, high))
+          (λ a b. let m = hq.within p b in
+          (omega (arith, ints, (he.within p a).below, m.east), omega (arith, ints, f₂, m.south), omega (arith, ints, v₂, m.north)))
+          (shows_inner at z East k.south_east k.inner_south_east (t₂ ∷ s₂) he.ccw) eq oe oq in
           let nc = chain_cross p North q.north k.inner_north_west (inners (t₃ ∷ s₃)) north_list qs inw
-                (inners_climb North r.north q.north k.north_west k.inner_north_west (t₃ ∷ s₃) r₃.ascends) (omega (arith, ints, f₃, u₃, wide))
-                (λ a b. let m = hq.within p b in
-                  (omega (arith, ints, (hn.within p a).below, m.north), omega (arith, ints, f₃, m.west), omega (arith, ints, u₃, m.east)))
-                (shows_inner at z North k.north_west k.inner_north_west (t₃ ∷ s₃) hn.ccw) nq on oq in
+          (inners_climb North r.north q.north k.north_west k.inner_north_west (t₃ ∷ s₃) r₃.ascends) (omega (arith, ints, f₃, u₃, wide))
+          (λ a b. let m = hq.within p b in
+          (omega (arith, ints, (hn.within p a).below, m.north), omega (arith, ints, f₃, m.west), omega (arith, ints, u₃, m.east)))
+          (shows_inner at z North k.north_west k.inner_north_west (t₃ ∷ s₃) hn.ccw) nq on oq in
           let wc = chain_cross p West q.west k.inner_south_west (inners (t₄ ∷ s₄)) west_list qs wiw
-                (inners_climb West r.west q.west k.south_west k.inner_south_west (t₄ ∷ s₄) r₄.ascends) (omega (arith, ints, f₄, v₄, high))
-                (λ a b. let m = hq.within p b in
-                  (omega (arith, ints, (hw.within p a).below, m.west), omega (arith, ints, f₄, m.south), omega (arith, ints, v₄, m.north)))
-                (shows_inner at z West k.south_west k.inner_south_west (t₄ ∷ s₄) hw.ccw) wq ow oq in
+          (inners_climb West r.west q.west k.south_west k.inner_south_west (t₄ ∷ s₄) r₄.ascends) (omega (arith, ints, f₄, v₄, high))
+          (λ a b. let m = hq.within p b in
+          (omega (arith, ints, (hw.within p a).below, m.west), omega (arith, ints, f₄, m.south), omega (arith, ints, v₄, m.north)))
+          (shows_inner at z West k.south_west k.inner_south_west (t₄ ∷ s₄) hw.ccw) wq ow oq in
           five_levels at z p south_list east_list north_list west_list qs os oe on ow oq se sn sw sc en ew ec nw nc wc

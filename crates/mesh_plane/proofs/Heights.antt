@@ -1,9 +1,9 @@
 -- Heights of placed triangles. A height is a fraction l/m with m above 0.
-use Rattle.std.proofs.Common.{◌≡◌, refl, ap, sym, arith, ◌∙◌, List, [], ◌∷◌, ◌++◌, map, inl, inr}
-use Rattle.std.specs.Prelude.{ℤ, pos, ◌+ℤ◌, ◌-ℤ◌, ◌*ℤ◌, ◌≤ℤ◌, ◌<ℤ◌, ◌⊎◌}
+use Rattle.std.proofs.Common.{◌≡◌, refl, ap, sym, arith, ◌∙◌, List, [], ◌∷◌, ◌++◌, inl, inr}
+use Rattle.std.specs.Prelude.{ℤ, pos, ◌+ℤ◌, ◌-ℤ◌, ◌*ℤ◌, ◌<ℤ◌, ◌⊎◌}
 use Rattle.std.specs.List.{AllByRecursion}
 use Rattle.std.proofs.lemmas.Int.{ints}
-use Rattle.polynomial.proofs.Expressions.{Expr, var, num, add, sub, mul}
+use Rattle.polynomial.proofs.Expressions.{var, mul}
 use Rattle.polynomial.proofs.NormalForm.{by_ring}
 use Rattle.polynomial.proofs.Signs.{factor_nought}
 use Rattle.mesh_plane.specs.Plane.{Point}
@@ -57,8 +57,8 @@ module _ {A : Type 0} (at : A → Point) (z : A → ℤ) where
     pub cross_when : (ts us : List (Triple A)) → (Held at p ts → Held at p us → Cross ts us) → Cross ts us
     cross_when ts us f = all_when (λ t. Each (Agree t) us) ts (λ held.
         all_map (λ t. Held at p us → Within at t p → Each (Agree t) us) (λ t. Within at t p → Each (Agree t) us)
-          (λ t g i. all_when (Agree t) us (λ h. g h i)) ts
-          (all_later (Held at p us) (λ t. Within at t p → Each (Agree t) us) ts (λ h. f held h)))
+        (λ t g i. all_when (Agree t) us (λ h. g h i)) ts
+        (all_later (Held at p us) (λ t. Within at t p → Each (Agree t) us) ts (λ h. f held h)))
 
     -- ---- lists
     pub one_append : (ts us : List (Triple A)) → OneLevel ts → OneLevel us → Cross ts us → OneLevel (ts ++ us)
@@ -78,20 +78,20 @@ module _ {A : Type 0} (at : A → Point) (z : A → ℤ) where
     pub levels_agree : (m l : ℤ) (t u : Triple A) → pos 0 <ℤ m → AtLevel m l t → AtLevel m l u → Agree t u
     levels_agree m l t u hm h k =
         cancelled m (lift t p *ℤ area at u) (lift u p *ℤ area at t) hm
-          (by_ring (mul (var 0) (mul (var 1) (var 2))) (mul (mul (var 1) (var 0)) (var 2)) (m ∷ lift t p ∷ area at u ∷ []) refl
-          ∙ ap (λ i. i *ℤ area at u) h
-          ∙ by_ring (mul (mul (var 0) (var 1)) (var 2)) (mul (mul (var 0) (var 2)) (var 1)) (l ∷ area at t ∷ area at u ∷ []) refl
-          ∙ ap (λ i. i *ℤ area at t) (sym k)
-          ∙ by_ring (mul (mul (var 1) (var 0)) (var 2)) (mul (var 0) (mul (var 1) (var 2))) (m ∷ lift u p ∷ area at t ∷ []) refl)
+        (by_ring (mul (var 0) (mul (var 1) (var 2))) (mul (mul (var 1) (var 0)) (var 2)) (m ∷ lift t p ∷ area at u ∷ []) refl
+        ∙ ap (λ i. i *ℤ area at u) h
+        ∙ by_ring (mul (mul (var 0) (var 1)) (var 2)) (mul (mul (var 0) (var 2)) (var 1)) (l ∷ area at t ∷ area at u ∷ []) refl
+        ∙ ap (λ i. i *ℤ area at t) (sym k)
+        ∙ by_ring (mul (mul (var 1) (var 0)) (var 2)) (mul (var 0) (mul (var 1) (var 2))) (m ∷ lift u p ∷ area at t ∷ []) refl)
 
     pub agreed : (m l : ℤ) (t u : Triple A) → pos 0 <ℤ area at t → AtLevel m l t → Agree t u → AtLevel m l u
     agreed m l t u ht h e =
         cancelled (area at t) (lift u p *ℤ m) (l *ℤ area at u) ht
-          (by_ring (mul (var 0) (mul (var 1) (var 2))) (mul (mul (var 1) (var 0)) (var 2)) (area at t ∷ lift u p ∷ m ∷ []) refl
-          ∙ ap (λ i. i *ℤ m) (sym e)
-          ∙ by_ring (mul (mul (var 0) (var 1)) (var 2)) (mul (mul (var 0) (var 2)) (var 1)) (lift t p ∷ area at u ∷ m ∷ []) refl
-          ∙ ap (λ i. i *ℤ area at u) h
-          ∙ by_ring (mul (mul (var 0) (var 1)) (var 2)) (mul (var 1) (mul (var 0) (var 2))) (l ∷ area at t ∷ area at u ∷ []) refl)
+        (by_ring (mul (var 0) (mul (var 1) (var 2))) (mul (mul (var 1) (var 0)) (var 2)) (area at t ∷ lift u p ∷ m ∷ []) refl
+        ∙ ap (λ i. i *ℤ m) (sym e)
+        ∙ by_ring (mul (mul (var 0) (var 1)) (var 2)) (mul (mul (var 0) (var 2)) (var 1)) (lift t p ∷ area at u ∷ m ∷ []) refl
+        ∙ ap (λ i. i *ℤ area at u) h
+        ∙ by_ring (mul (mul (var 0) (var 1)) (var 2)) (mul (var 1) (mul (var 0) (var 2))) (l ∷ area at t ∷ area at u ∷ []) refl)
 
     -- the triangles that hold the point have the height l/m there
     abbrev pub Has : ℤ → ℤ → List (Triple A) → Type 0
@@ -100,8 +100,8 @@ module _ {A : Type 0} (at : A → Point) (z : A → ℤ) where
     pub cross_levels : (m l : ℤ) (ts us : List (Triple A)) → pos 0 <ℤ m → Has m l ts → Has m l us → Cross ts us
     cross_levels m l ts us hm h k =
         all_map (λ t. Within at t p → AtLevel m l t) (λ t. Within at t p → Each (Agree t) us)
-          (λ t f i. all_map (λ u. Within at u p → AtLevel m l u) (λ u. Within at u p → Agree t u)
-            (λ u g j. levels_agree m l t u hm (f i) (g j)) us k) ts h
+        (λ t f i. all_map (λ u. Within at u p → AtLevel m l u) (λ u. Within at u p → Agree t u)
+        (λ u g j. levels_agree m l t u hm (f i) (g j)) us k) ts h
 
     -- some triangle holds the point and has the height l/m there
     abbrev pub Shown : ℤ → ℤ → List (Triple A) → Type 0
@@ -116,9 +116,11 @@ module _ {A : Type 0} (at : A → Point) (z : A → ℤ) where
     -- where all agree and one is shown, all have the height
     pub spread : (m l : ℤ) (ts : List (Triple A)) → OneLevel ts → Shown m l ts → Has m l ts
     spread m l [] o h = elim h [ ]
-    spread m l (t ∷ ts) o (inl h) =
-        ((λ i. h.2), all_map (λ u. Within at u p → Agree t u) (λ u. Within at u p → AtLevel m l u)
-          (λ u f i. agreed m l t u h.0 h.2 (f i)) ts (o.0 h.1))
+    spread m l (t ∷ ts) o (inl h) = (
+      (λ i. h.2),
+      all_map (λ u. Within at u p → Agree t u) (λ u. Within at u p → AtLevel m l u)
+          (λ u f i. agreed m l t u h.0 h.2 (f i)) ts (o.0 h.1),
+    )
     spread m l (t ∷ ts) o (inr h) = ((λ i. head_level m l t ts (o.0 i) h), spread m l ts o.1 h)
 
     -- one that holds the point shows a height
@@ -131,13 +133,13 @@ module _ {A : Type 0} (at : A → Point) (z : A → ℤ) where
     has_left : (m l : ℤ) (ts us : List (Triple A)) → Cross ts us → Shown m l us → Has m l ts
     has_left m l ts us x s =
         all_map (λ t. Within at t p → Each (Agree t) us) (λ t. Within at t p → AtLevel m l t)
-          (λ t f i. head_level m l t us (f i) s) ts x
+        (λ t f i. head_level m l t us (f i) s) ts x
 
     has_right : (m l : ℤ) (us vs : List (Triple A)) → Cross us vs → Shown m l us → Has m l vs
     has_right m l [] vs x s = elim s [ ]
     has_right m l (u ∷ us) vs x (inl s) =
         all_map (λ v. Within at v p → Agree u v) (λ v. Within at v p → AtLevel m l v)
-          (λ v f i. agreed m l u v s.0 s.2 (f i)) vs (x.0 s.1)
+        (λ v f i. agreed m l u v s.0 s.2 (f i)) vs (x.0 s.1)
     has_right m l (u ∷ us) vs x (inr s) = has_right m l us vs x.1 s
 
     -- two lists that agree with a third, which holds the point
@@ -152,4 +154,4 @@ module _ {A : Type 0} (at : A → Point) (z : A → ℤ) where
         → Cross a b → Cross a c → Cross a d → Cross b c → Cross b d → Cross c d → OneLevel (a ++ (b ++ (c ++ d)))
     four_levels a b c d oa ob oc od ab ac ad bc bd cd =
         one_append a (b ++ (c ++ d)) oa (one_append b (c ++ d) ob (one_append c d oc od cd) (cross_right b c d bc bd))
-          (cross_right a b (c ++ d) ab (cross_right a c d ac ad))
+        (cross_right a b (c ++ d) ab (cross_right a c d ac ad))

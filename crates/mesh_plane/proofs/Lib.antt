@@ -20,3 +20,5 @@ pub mod StripHeights
 pub mod StripFrames
 pub mod FrameHeights
 pub mod FanHeights
+pub mod Quads
+pub mod Covers

@@ -1,19 +1,17 @@
 -- Sweeps, strips and fans have one height at each point.
-use Rattle.std.proofs.Common.{◌≡◌, refl, ap, sym, arith, ◌∙◌, List, [], ◌∷◌, ◌++◌, map, inl, inr, ⊎_elim, subst}
-use Rattle.std.specs.Prelude.{ℤ, pos, ◌+ℤ◌, ◌-ℤ◌, ◌*ℤ◌, ◌≤ℤ◌, ◌<ℤ◌, ◌⊎◌}
+use Rattle.std.proofs.Common.{◌≡◌, ap, sym, arith, ◌∙◌, List, [], ◌∷◌, map, inl, ⊎_elim}
+use Rattle.std.specs.Prelude.{ℤ, pos, ◌*ℤ◌, ◌≤ℤ◌, ◌<ℤ◌}
 use Rattle.std.specs.List.{AllByRecursion}
 use Rattle.std.proofs.lemmas.Int.{ints}
 use Rattle.mesh_plane.specs.Plane.{Point}
-use Rattle.mesh_plane.specs.Triangles.{Triple, Side, South, East, North, West, Step, Outer, Inner, cornered, strip, outer_end, inner_end}
-use Rattle.mesh_plane.specs.Strip.{across, IsOutside, Ascend}
-use Rattle.mesh_plane.proofs.Turns.{turn, turned_back, turned_on, three_sides}
-use Rattle.mesh_plane.proofs.Tilings.{IsCcw, area, Within, Held, Tiling}
+use Rattle.mesh_plane.specs.Triangles.{Triple, Step, Outer, Inner}
+use Rattle.mesh_plane.proofs.Turns.{turn, turned_on}
+use Rattle.mesh_plane.proofs.Tilings.{IsCcw, area, Within, Held}
 use Rattle.mesh_plane.proofs.Moves.{Alike, swapped, flipped, flipped_alike, turn_swapped, shifted, shifted_alike}
 use Rattle.mesh_plane.proofs.Sweeps.{Moves, sweep, sweep_tiles}
-use Rattle.mesh_plane.proofs.Lines.{reach, no_reach}
-use Rattle.mesh_plane.proofs.Strips.{depth, depth_above, mirror, south_is, east_is, north_is, west_is, south_moves, east_moves, north_ascend, west_ascend}
+use Rattle.mesh_plane.proofs.Strips.{mirror}
 use Rattle.mesh_plane.proofs.Heights.{lift, Agree, Each, OneLevel, Cross, cross_when, one_append}
-use Rattle.mesh_plane.proofs.Edges.{Edge, On, on_side, Meets, meets_a, meets_b, meets_c, HasEdge, edge_cross, Shows, shows_on, chain}
+use Rattle.mesh_plane.proofs.Edges.{on_side, meets_a, meets_b, meets_c, HasEdge, edge_cross}
 
 module _ {A : Type 0} (at : A → Point) (z : A → ℤ) where
   -- one triangle
@@ -36,12 +34,12 @@ module _ {A : Type 0} (at : A → Point) (z : A → ℤ) where
     outer_cross o n x us h edge one right =
         let t : Triple A = record { a = o; b = x; c = n } in
         cross_when at z p (t ∷ []) us (λ i j. ⊎_elim
-          (λ (w : Within at t p).
-            let e : turn (at x) (at n) p ≡ pos 0 = omega (arith, ints, w.bc, right j) in
-            edge_cross at z x n p (turn (at n) (at o) p) (turn (at o) (at x) p) (t ∷ []) us
-              (on_side (at o) (at x) (at n) p h e w.ca w.ab)
-              (inl (h, meets_b at z t h, meets_c at z t h)) edge (one_alone p t) one)
-          (λ k. absurd k) i)
+        (λ (w : Within at t p).
+        let e : turn (at x) (at n) p ≡ pos 0 = omega (arith, ints, w.bc, right j) in
+        edge_cross at z x n p (turn (at n) (at o) p) (turn (at o) (at x) p) (t ∷ []) us
+        (on_side (at o) (at x) (at n) p h e w.ca w.ab)
+        (inl (h, meets_b at z t h, meets_c at z t h)) edge (one_alone p t) one)
+        (λ k. absurd k) i)
 
     inner_cross : (o n x : A) (us : List (Triple A)) → pos 0 <ℤ area at (record { a = o; b = x; c = n }) → HasEdge at z o x us
         → OneLevel at z p us → (Held at p us → turn (at o) (at x) p ≤ℤ pos 0)
@@ -49,13 +47,13 @@ module _ {A : Type 0} (at : A → Point) (z : A → ℤ) where
     inner_cross o n x us h edge one right =
         let t : Triple A = record { a = o; b = x; c = n } in
         cross_when at z p (t ∷ []) us (λ i j. ⊎_elim
-          (λ (w : Within at t p).
-            let e : turn (at o) (at x) p ≡ pos 0 = omega (arith, ints, w.ab, right j) in
-            let k : pos 0 <ℤ turn (at n) (at o) (at x) = omega (arith, ints, h, turned_on (at n) (at o) (at x)) in
-            edge_cross at z o x p (turn (at x) (at n) p) (turn (at n) (at o) p) (t ∷ []) us
-              (on_side (at n) (at o) (at x) p k e w.bc w.ca)
-              (inl (h, meets_a at z t h, meets_b at z t h)) edge (one_alone p t) one)
-          (λ k. absurd k) i)
+        (λ (w : Within at t p).
+        let e : turn (at o) (at x) p ≡ pos 0 = omega (arith, ints, w.ab, right j) in
+        let k : pos 0 <ℤ turn (at n) (at o) (at x) = omega (arith, ints, h, turned_on (at n) (at o) (at x)) in
+        edge_cross at z o x p (turn (at x) (at n) p) (turn (at n) (at o) p) (t ∷ []) us
+        (on_side (at n) (at o) (at x) p k e w.bc w.ca)
+        (inl (h, meets_a at z t h, meets_b at z t h)) edge (one_alone p t) one)
+        (λ k. absurd k) i)
 
     pub sweep_one : (h : Point → ℤ) (m : ℤ) (o n : A) (s : Step A) (steps : List (Step A)) → pos 0 <ℤ m → h (at o) ≡ pos 0
         → h (at n) ≡ m → Moves at h m o n (s ∷ steps) → OneLevel at z p (sweep at o n (s ∷ steps))
@@ -67,14 +65,14 @@ module _ {A : Type 0} (at : A → Point) (z : A → ℤ) where
         let us = sweep at x n (t ∷ steps) in
         let one = sweep_one h m x n t steps hm s.1 hn s.2 in
         one_append at z p (record { a = o; b = x; c = n } ∷ []) us (one_alone p (record { a = o; b = x; c = n })) one
-          (outer_cross o n x us whole.ccw.0 (first_segment x n t steps rest.ccw) one (λ j. (rest.within p j).right))
+        (outer_cross o n x us whole.ccw.0 (first_segment x n t steps rest.ccw) one (λ j. (rest.within p j).right))
     sweep_one h m o n (Inner x) (t ∷ steps) hm ho hn s =
         let whole = sweep_tiles at h m o n (Inner x) (t ∷ steps) hm ho hn s in
         let rest = sweep_tiles at h m o x t steps hm ho s.1 s.2 in
         let us = sweep at o x (t ∷ steps) in
         let one = sweep_one h m o x t steps hm ho s.1 s.2 in
         one_append at z p (record { a = o; b = x; c = n } ∷ []) us (one_alone p (record { a = o; b = x; c = n })) one
-          (inner_cross o n x us whole.ccw.0 (first_segment o x t steps rest.ccw) one (λ j. (rest.within p j).right))
+        (inner_cross o n x us whole.ccw.0 (first_segment o x t steps rest.ccw) one (λ j. (rest.within p j).right))
 
 -- ---- lists of which each triangle is turned on or mirrored
 -- f t has at p the height and the area that t has at back p
@@ -110,8 +108,8 @@ flipped_same at z = record {
   alike = flipped_alike at;
   area_is = λ t. turned_on (at t.b) (at t.a) (at t.c) ∙ sym (turn_swapped (at t.a) (at t.b) (at t.c));
   lift_is = λ t p.
-    let e = ap (λ i. z t.a *ℤ i) (turn_swapped (at t.b) (at t.c) p) in
-    let f = ap (λ i. z t.b *ℤ i) (turn_swapped (at t.c) (at t.a) p) in
-    let g = ap (λ i. z t.c *ℤ i) (turn_swapped (at t.a) (at t.b) p) in
-    omega (arith, ints, e, f, g);
+      let e = ap (λ i. z t.a *ℤ i) (turn_swapped (at t.b) (at t.c) p) in
+      let f = ap (λ i. z t.b *ℤ i) (turn_swapped (at t.c) (at t.a) p) in
+      let g = ap (λ i. z t.c *ℤ i) (turn_swapped (at t.a) (at t.b) p) in
+      omega (arith, ints, e, f, g);
 }

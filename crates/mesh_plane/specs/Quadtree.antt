@@ -1,5 +1,5 @@
 -- The triangles of the leaves of a quadtree over the lines of a grid.
-use Rattle.std.specs.Prelude.{ℕ, zero, suc, ◌+◌, ◌-◌, ◌*◌, ◌^◌, Bool, true, false, List, [], ◌∷◌, ◌++◌, if◌then◌else◌}
+use Rattle.std.specs.Prelude.{ℕ, zero, suc, ◌+◌, ◌*◌, ◌^◌, Bool, List, [], ◌∷◌, ◌++◌, if◌then◌else◌}
 use Rattle.mesh_plane.specs.Triangles.{Triple, fan}
 use Rattle.mesh_plane.specs.Fan.{Ring, round}
 
@@ -47,7 +47,7 @@ module _ {A : Type 0} (grid : ℕ → ℕ → A) where
   abbrev pub smallest : ℕ → ℕ → List (Triple A)
   smallest x y =
       halves (grid (line_of zero x) (line_of zero y)) (grid (line_of zero (x + 1)) (line_of zero y))
-        (grid (line_of zero (x + 1)) (line_of zero (y + 1))) (grid (line_of zero x) (line_of zero (y + 1)))
+      (grid (line_of zero (x + 1)) (line_of zero (y + 1))) (grid (line_of zero x) (line_of zero (y + 1)))
 
   -- those of all leaves of the node (x, y) of level k, where p says which nodes are split and m which sides of a leaf
   -- have midpoints: south-west, south-east, north-west and north-east quarters in this order
@@ -55,5 +55,5 @@ module _ {A : Type 0} (grid : ℕ → ℕ → A) where
   leaves p m zero x y = smallest x y
   leaves p m (suc k) x y = if p (suc k) x y
       then leaves p m k (2 * x) (2 * y) ++ (leaves p m k (2 * x + 1) (2 * y)
-        ++ (leaves p m k (2 * x) (2 * y + 1) ++ leaves p m k (2 * x + 1) (2 * y + 1)))
+      ++ (leaves p m k (2 * x) (2 * y + 1) ++ leaves p m k (2 * x + 1) (2 * y + 1)))
       else leaf k x y (m (suc k) x y)
