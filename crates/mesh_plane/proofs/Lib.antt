@@ -22,3 +22,6 @@ pub mod FrameHeights
 pub mod FanHeights
 pub mod Quads
 pub mod Covers
+pub mod QuadLines
+pub mod QuadHeights
+pub mod Surfaces
