@@ -1,5 +1,5 @@
 -- The words of clauses on each, some and each two elements of a list, and the same by recursion.
-use Rattle.std.proofs.Common.{◌≡◌, ℕ, zero, suc, ◌+◌, ◌<◌, refl, sym, ap, subst, arith, List, [], ◌∷◌, ◌++◌, map, inl, inr, length}
+use Rattle.std.proofs.Common.{◌≡◌, ℕ, zero, suc, ◌<◌, refl, sym, subst, arith, List, [], ◌∷◌, map, inl, inr, length}
 use Rattle.std.specs.Prelude.{◌⊎◌, All, Any, AllPairs, slice_index_or}
 use Rattle.std.specs.List.{AllByRecursion}
 

@@ -1,9 +1,8 @@
 -- Tilings of which each triangle is turned on by one corner, or mirrored.
-use Rattle.std.proofs.Common.{◌≡◌, refl, ap, sym, ◌∙◌, arith, List, [], ◌∷◌, map, inl, inr, ⊎_elim}
-use Rattle.std.specs.Prelude.{ℤ, pos, ◌-ℤ◌, ◌≤ℤ◌, ◌<ℤ◌, ◌⊎◌}
+use Rattle.std.proofs.Common.{◌≡◌, refl, arith, List, [], ◌∷◌, map, inl, inr}
 use Rattle.std.specs.List.{AllByRecursion}
 use Rattle.std.proofs.lemmas.Int.{ints}
-use Rattle.polynomial.proofs.Expressions.{Expr, var, num, add, sub, mul}
+use Rattle.polynomial.proofs.Expressions.{var}
 use Rattle.polynomial.proofs.NormalForm.{by_ring}
 use Rattle.mesh_plane.specs.Plane.{Point, point}
 use Rattle.mesh_plane.specs.Triangles.{Triple}
@@ -80,13 +79,16 @@ flipped_alike at = record {
   out = λ t p h. record {
     ab = omega (arith, ints, h.ca, turn_swapped (at t.a) (at t.b) p);
     bc = omega (arith, ints, h.bc, turn_swapped (at t.b) (at t.c) p);
-    ca = omega (arith, ints, h.ab, turn_swapped (at t.c) (at t.a) p) };
+    ca = omega (arith, ints, h.ab, turn_swapped (at t.c) (at t.a) p);
+  };
   into = λ t p h. record {
     ab = omega (arith, ints, h.ca, turn_swapped (at t.c) (at t.a) p);
     bc = omega (arith, ints, h.bc, turn_swapped (at t.b) (at t.c) p);
-    ca = omega (arith, ints, h.ab, turn_swapped (at t.a) (at t.b) p) };
+    ca = omega (arith, ints, h.ab, turn_swapped (at t.a) (at t.b) p);
+  };
   inside = λ t p h. record {
     ab = omega (arith, ints, h.ca, turn_swapped (at t.a) (at t.b) p);
     bc = omega (arith, ints, h.bc, turn_swapped (at t.b) (at t.c) p);
-    ca = omega (arith, ints, h.ab, turn_swapped (at t.c) (at t.a) p) };
+    ca = omega (arith, ints, h.ab, turn_swapped (at t.c) (at t.a) p);
+  };
 }

@@ -1,20 +1,20 @@
 -- What holds at every scale, from what holds of the corners multiplied by the scale.
-use Rattle.std.proofs.Common.{◌≡◌, refl, ap, sym, arith, ◌∙◌, List, [], ◌∷◌, ◌++◌, map, inl, inr, ⊎_elim, subst}
-use Rattle.std.specs.Prelude.{ℤ, pos, ◌+ℤ◌, ◌-ℤ◌, ◌*ℤ◌, ◌≤ℤ◌, ◌<ℤ◌, ◌⊎◌, All, Any, AllPairs}
+use Rattle.std.proofs.Common.{◌≡◌, refl, arith, List, [], ◌∷◌, map, inl, inr}
+use Rattle.std.specs.Prelude.{ℤ, pos, ◌-ℤ◌, ◌*ℤ◌, ◌≤ℤ◌, ◌<ℤ◌, ◌⊎◌, All, Any}
 use Rattle.std.specs.List.{AllByRecursion}
 use Rattle.std.proofs.lemmas.Int.{ints}
-use Rattle.polynomial.proofs.Expressions.{Expr, var, num, add, sub, mul}
+use Rattle.polynomial.proofs.Expressions.{var, num, mul}
 use Rattle.polynomial.proofs.NormalForm.{by_ring}
-use Rattle.polynomial.proofs.Signs.{times_nonneg, times_pos, factor_nonneg, factor_pos, weaken}
+use Rattle.polynomial.proofs.Signs.{times_nonneg, times_pos, factor_nonneg, factor_pos}
 use Rattle.mesh_plane.specs.declared.corner.Corner.{Corner}
 use Rattle.mesh_plane.specs.declared.corner.Tri.{Tri}
-use Rattle.mesh_plane.specs.Plane.{Point, point, place_at, side_of, doubled_area, IsCounterClockwise, Holds, HoldsStrictly}
+use Rattle.mesh_plane.specs.Plane.{Point, point, side_of, doubled_area, IsCounterClockwise, Holds, HoldsStrictly}
 use Rattle.mesh_plane.specs.Triangles.{Triple}
 use Rattle.mesh_plane.specs.Cover.{HeldOnce, Tiles}
 use Rattle.mesh_plane.proofs.Turns.{turn, turned, side_scaled}
 use Rattle.mesh_plane.proofs.Sweeps.{difference}
 use Rattle.mesh_plane.proofs.Tilings.{IsCcw, Within, Inside, Held, HeldInside, NoneTwice, Tiling, all_map}
-use Rattle.mesh_plane.proofs.ListWords.{all_from, all_to, any_here, any_there, any_none, any_cases, pairs_none, pairs_cons, pairs_head, pairs_tail, all_map_to, all_map_from}
+use Rattle.mesh_plane.proofs.ListWords.{all_from, all_to, any_here, any_there, any_none, any_cases, pairs_none, pairs_cons, pairs_head, pairs_tail, all_map_from}
 
 -- ---- multiplied numbers keep their order
 pub grow_le : (s a b : ℤ) → pos 1 ≤ℤ s → a ≤ℤ b → (s *ℤ a) ≤ℤ (s *ℤ b)
@@ -51,14 +51,19 @@ module _ {A : Type 0} (at : A → Point) (z : A → ℤ) where
   pub area_scaled : (s : ℤ) (t : Triple A) → turn (scaled s t.a) (scaled s t.b) (scaled s t.c) ≡ (s *ℤ s) *ℤ doubled_area (placed t)
   area_scaled s t =
       by_ring
-        (turned (mul (var 6) (var 0)) (mul (var 6) (var 1)) (mul (var 6) (var 2)) (mul (var 6) (var 3)) (mul (var 6) (var 4)) (mul (var 6) (var 5)))
-        (mul (mul (var 6) (var 6)) (turned (var 0) (var 1) (var 2) (var 3) (var 4) (var 5)))
-        ((at t.a).u ∷ (at t.a).v ∷ (at t.b).u ∷ (at t.b).v ∷ (at t.c).u ∷ (at t.c).v ∷ s ∷ []) refl
+      (turned (mul (var 6) (var 0)) (mul (var 6) (var 1)) (mul (var 6) (var 2)) (mul (var 6) (var 3)) (mul (var 6) (var 4)) (mul (var 6) (var 5)))
+      (mul (mul (var 6) (var 6)) (turned (var 0) (var 1) (var 2) (var 3) (var 4) (var 5)))
+      ((at t.a).u ∷ (at t.a).v ∷ (at t.b).u ∷ (at t.b).v ∷ (at t.c).u ∷ (at t.c).v ∷ s ∷ []) refl
 
   pub ccw_out : (t : Triple A) → IsCcw (scaled (pos 1)) t → IsCounterClockwise (placed t)
   ccw_out t h =
-      omega (arith, ints, h, area_scaled (pos 1) t,
-        by_ring (mul (mul (num 1) (num 1)) (var 0)) (var 0) (doubled_area (placed t) ∷ []) refl)
+      omega (
+        arith,
+        ints,
+        h,
+        area_scaled (pos 1) t,
+        by_ring (mul (mul (num 1) (num 1)) (var 0)) (var 0) (doubled_area (placed t) ∷ []) refl,
+      )
 
   module _ (s x y : ℤ) (h : pos 1 ≤ℤ s) where
     side_is : (k l : A) → s *ℤ side_of (corner_of k) (corner_of l) s x y ≡ turn (scaled s k) (scaled s l) (point x y)
@@ -126,7 +131,7 @@ module _ {A : Type 0} (at : A → Point) (z : A → ℤ) where
     once_out [] i = pairs_none NotBoth
     once_out (t ∷ ts) i =
         pairs_cons NotBoth (placed t) (map placed ts)
-          (all_from (NotBoth (placed t)) (map placed ts) (not_both t ts i.0)) (once_out ts i.1)
+        (all_from (NotBoth (placed t)) (map placed ts) (not_both t ts i.0)) (once_out ts i.1)
 
     none_inside : (t : Triple A) (ts : List (Triple A)) → AllByRecursion (NotBoth (placed t)) (map placed ts)
         → Inside (scaled s) t (point x y) → ¬ HeldInside (scaled s) (point x y) ts
@@ -136,14 +141,15 @@ module _ {A : Type 0} (at : A → Point) (z : A → ℤ) where
 
     pub once_in : (ts : List (Triple A)) → HeldOnce s x y (map placed ts) → NoneTwice (scaled s) (point x y) ts
     once_in [] i = tt
-    once_in (t ∷ ts) i =
-        (none_inside t ts (all_to (NotBoth (placed t)) (map placed ts) (pairs_head NotBoth (placed t) (map placed ts) i)),
-          once_in ts (pairs_tail NotBoth (placed t) (map placed ts) i))
+    once_in (t ∷ ts) i = (
+      none_inside t ts (all_to (NotBoth (placed t)) (map placed ts) (pairs_head NotBoth (placed t) (map placed ts) i)),
+      once_in ts (pairs_tail NotBoth (placed t) (map placed ts) i),
+    )
 
   pub all_ccw : (ts : List (Triple A)) → AllByRecursion (IsCcw (scaled (pos 1))) ts → All IsCounterClockwise (map placed ts)
   all_ccw ts h =
       all_from IsCounterClockwise (map placed ts)
-        (all_map_from IsCounterClockwise placed ts (all_map (IsCcw (scaled (pos 1))) (λ t. IsCounterClockwise (placed t)) ccw_out ts h))
+      (all_map_from IsCounterClockwise placed ts (all_map (IsCcw (scaled (pos 1))) (λ t. IsCounterClockwise (placed t)) ccw_out ts h))
 
   -- what tiles a region at each scale
   pub tiles_at_each_scale : (region inside : ℤ → Point → Type 0) (ts : List (Triple A))

@@ -1,5 +1,5 @@
 -- Triangles that tile a region of the plane, over corners of any kind that are placed by a function.
-use Rattle.std.proofs.Common.{◌≡◌, List, [], ◌∷◌, ◌++◌, map, inl, inr, ⊎_elim, arith}
+use Rattle.std.proofs.Common.{List, [], ◌∷◌, ◌++◌, inl, inr, ⊎_elim}
 use Rattle.std.specs.Prelude.{ℤ, pos, ◌≤ℤ◌, ◌<ℤ◌, ◌⊎◌}
 use Rattle.std.specs.List.{AllByRecursion}
 use Rattle.mesh_plane.specs.Plane.{Point}
@@ -83,9 +83,10 @@ module _ {A : Type 0} (at : A → Point) where
   pub none_twice : (p : Point) (ts us : List (Triple A)) → NoneTwice p ts → NoneTwice p us
       → (HeldInside p ts → HeldInside p us → ⊥) → NoneTwice p (ts ++ us)
   none_twice p [] us h k apart = k
-  none_twice p (t ∷ ts) us h k apart =
-      (λ s w. ⊎_elim (λ x. h.0 s x) (λ y. apart (inl s) y) (inside_split p ts us w),
-        none_twice p ts us h.1 k (λ x y. apart (inr x) y))
+  none_twice p (t ∷ ts) us h k apart = (
+    λ s w. ⊎_elim (λ x. h.0 s x) (λ y. apart (inl s) y) (inside_split p ts us w),
+    none_twice p ts us h.1 k (λ x y. apart (inr x) y),
+  )
 
   -- ---- tilings of parts make a tiling of the whole
   -- two regions whose insides are apart
@@ -106,14 +107,17 @@ module _ {A : Type 0} (at : A → Point) where
       → ((p : Point) → S₁ p → S₂ p → ⊥) → Tiling (λ p. R₁ p ⊎ R₂ p) (λ p. S₁ p ⊎ S₂ p) (ts ++ us)
   tiling_union R₁ S₁ R₂ S₂ ts us h k apart =
       tiling_append (λ p. R₁ p ⊎ R₂ p) (λ p. S₁ p ⊎ S₂ p) R₁ S₁ R₂ S₂ ts us h k
-        (λ p r. r) (λ p r. inl r) (λ p r. inr r) (λ p r. inl r) (λ p r. inr r) apart
+      (λ p r. r) (λ p r. inl r) (λ p r. inr r) (λ p r. inl r) (λ p r. inr r) apart
 
   -- another word for the same region
   pub tiling_same : (R S R' S' : Point → Type 0) (ts : List (Triple A)) → ((p : Point) → R p → R' p)
       → ((p : Point) → R' p → R p) → ((p : Point) → S p → S' p) → Tiling R S ts → Tiling R' S' ts
   tiling_same R S R' S' ts f g s h = record {
-    ccw = h.ccw; within = λ p w. f p (h.within p w); full = λ p r. h.full p (g p r);
-    inner = λ p w. s p (h.inner p w); once = h.once;
+    ccw = h.ccw;
+    within = λ p w. f p (h.within p w);
+    full = λ p r. h.full p (g p r);
+    inner = λ p w. s p (h.inner p w);
+    once = h.once;
   }
 
   -- one triangle

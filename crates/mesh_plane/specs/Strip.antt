@@ -51,7 +51,7 @@ InStrip West o n o' n' = InQuad o n n' o'
 abbrev pub StripLaw : Type 0
 StripLaw = (side : Side) (outer inner : ℤ) (o n : Corner) (steps : List (Step Corner))
     → let at : Corner → Point = λ k. point k.u k.v in let o' = outer_end o steps in let n' = inner_end n steps in
-      IsOutside side outer inner → across side (at o) ≡ outer → across side (at n) ≡ inner
+    IsOutside side outer inner → across side (at o) ≡ outer → across side (at n) ≡ inner
     → Ascend at side outer inner o n steps
     → along side (at o) <ℤ along side (at o') → along side (at n) <ℤ along side (at n')
     → Tiles (InStrip side o n o' n') (map tri_of (strip side o n steps))

@@ -9,26 +9,22 @@ ghost use Rattle.mesh_plane.specs.Continuity.{ContinuityLaw};
 /// rectangle. The ring lies on the border, counter-clockwise, and has the rectangle's four corners.
 pub fn fan()
     ensures { FanLaw }
-{
-}
+{}
 
 /// A strip of triangles between two lines along an axis tiles the quadrilateral between its ends, on each of the
 /// four sides of a square and in whatever order the points of the two lines are taken.
 pub fn strip()
     ensures { StripLaw }
-{
-}
+{}
 
 /// Where a line has all corners of one list of triangles on its one closed side, and all of another list on the
 /// other, and neither list holds a point strictly twice, both together do not.
 pub fn join()
     ensures { JoinLaw }
-{
-}
+{}
 
 /// Where the planes of two triangles have one height at two different points, they have one height at each point of
 /// the line through these.
 pub fn continuity()
     ensures { ContinuityLaw }
-{
-}
+{}

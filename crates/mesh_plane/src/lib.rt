@@ -7,3 +7,6 @@ pub mod laws;
 
 pub use corner::{Corner, Tri, side, within};
 pub use gap::{Gap, ceil_gap, height_gap};
+
+#[cfg(test)]
+mod tests;

@@ -23,7 +23,7 @@ returns-clause-value c =
     let h1 : FitsSigned w64 c.product-across.result = omega (arith, ints, c.product-across.ensures.size) in
     let h2 : FitsSigned w64 c.product-along.result = omega (arith, ints, c.product-along.ensures.size) in
     let h3 : FitsSigned w64 (c.product-across.result -ℤ c.product-along.result) =
-          omega (arith, ints, c.product-across.ensures.size, c.product-along.ensures.size) in
+    omega (arith, ints, c.product-across.ensures.size, c.product-along.ensures.size) in
     let e1 = simp to_z-of_z at c.product-across.ensures.value in
     let e2 = simp to_z-of_z at c.product-along.ensures.value in
     simp to_z-of_z (cc (e1, e2))
@@ -33,5 +33,5 @@ returns-clause-size c =
     let h1 : FitsSigned w64 c.product-across.result = omega (arith, ints, c.product-across.ensures.size) in
     let h2 : FitsSigned w64 c.product-along.result = omega (arith, ints, c.product-along.ensures.size) in
     let h3 : FitsSigned w64 (c.product-across.result -ℤ c.product-along.result) =
-          omega (arith, ints, c.product-across.ensures.size, c.product-along.ensures.size) in
+    omega (arith, ints, c.product-across.ensures.size, c.product-along.ensures.size) in
     simp to_z-of_z (omega (arith, ints, c.product-across.ensures.size, c.product-along.ensures.size))

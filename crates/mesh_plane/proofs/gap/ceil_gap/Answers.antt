@@ -1,9 +1,8 @@
 -- The quotient of natural numbers is the whole part.
-use Rattle.std.proofs.Common.{◌≡◌, ℕ, ◌+◌, arith, FitsSigned}
-use Rattle.std.specs.Prelude.{ℤ, pos, negsuc, ◌-ℤ◌, ◌<ℤ◌, ◌≤ℤ◌, ◌*ℤ◌, unsigned_abs, int_div}
+use Rattle.std.proofs.Common.{arith, FitsSigned}
+use Rattle.std.specs.Prelude.{pos, ◌-ℤ◌, int_div}
 use Rattle.std.specs.Int.{w128}
-use Rattle.std.proofs.lemmas.Int.{ints, to_z-of_z, quot_is, quot_fits}
-use Rattle.mesh_plane.specs.Surface.{IsCeiling}
+use Rattle.std.proofs.lemmas.Int.{ints, to_z-of_z, quot_fits}
 use Rattle.mesh_plane.proofs.Sizes.{ceiling_above}
 use Rattle.mesh_plane.proofs.gap.ceil_gap.Goals as goal
 

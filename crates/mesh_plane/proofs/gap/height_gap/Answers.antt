@@ -1,7 +1,7 @@
 -- All numbers fit 128 bits.
-use Rattle.std.proofs.Common.{◌≡◌, ◌≤◌, arith, FitsSigned, w64}
-use Rattle.std.specs.Prelude.{ℤ, pos, ◌-ℤ◌, ◌*ℤ◌, ◌<ℤ◌, unsigned_abs}
-use Rattle.std.specs.Int.{w32, w128}
+use Rattle.std.proofs.Common.{arith, FitsSigned}
+use Rattle.std.specs.Prelude.{◌-ℤ◌}
+use Rattle.std.specs.Int.{w128}
 use Rattle.std.proofs.lemmas.Int.{ints, to_z-of_z}
 use Rattle.polynomial.proofs.Signs.{times_pos}
 use Rattle.mesh_plane.specs.Plane.{doubled_area}
@@ -35,14 +35,14 @@ returns-clause-over c =
     simp to_z-of_z (cc (e0, e1, e2, e3))
 
 pub returns-clause-under : goal.returns-clause-under
-returns-clause-under c = 
+returns-clause-under c =
     let r = c.ranges.scale in
     let f : FitsSigned w128 c.area_at-under.result = omega (arith, ints, c.area_at-under.ensures.size) in
     let e = simp to_z-of_z at c.area_at-under.ensures.value in
     simp to_z-of_z e
 
 pub returns-clause-above_zero : goal.returns-clause-above_zero
-returns-clause-above_zero c = 
+returns-clause-above_zero c =
     let r = c.ranges.scale in
     let f : FitsSigned w128 c.area_at-under.result = omega (arith, ints, c.area_at-under.ensures.size) in
     let e = simp to_z-of_z at c.area_at-under.ensures.value in

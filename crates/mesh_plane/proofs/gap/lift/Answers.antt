@@ -1,6 +1,6 @@
 -- Three products of heights and sides.
 use Rattle.std.proofs.Common.{arith, rules, FitsSigned}
-use Rattle.std.specs.Prelude.{◌≡◌, ◌+ℤ◌, unsigned_abs}
+use Rattle.std.specs.Prelude.{◌+ℤ◌}
 use Rattle.std.specs.Int.{w32, w128}
 use Rattle.std.proofs.lemmas.Int.{ints, to_z-of_z}
 use Rattle.mesh_plane.proofs.gap.lift.Goals as goal
@@ -29,7 +29,7 @@ returns-clause-value c =
     let f3 : FitsSigned w128 c.weighted-c.result = omega (arith, ints, c.weighted-c.ensures.size) in
     let f4 : FitsSigned w128 (c.weighted-a.result +ℤ c.weighted-b.result) = omega (arith, ints, c.weighted-a.ensures.size, c.weighted-b.ensures.size) in
     let f5 : FitsSigned w128 ((c.weighted-a.result +ℤ c.weighted-b.result) +ℤ c.weighted-c.result) =
-          omega (arith, ints, c.weighted-a.ensures.size, c.weighted-b.ensures.size, c.weighted-c.ensures.size) in
+    omega (arith, ints, c.weighted-a.ensures.size, c.weighted-b.ensures.size, c.weighted-c.ensures.size) in
     let v1 = simp to_z-of_z at c.side.ensures.value in
     let v2 = simp to_z-of_z at c.side-2.ensures.value in
     let v3 = simp to_z-of_z at c.side-3.ensures.value in
@@ -45,5 +45,5 @@ returns-clause-size c =
     let f3 : FitsSigned w128 c.weighted-c.result = omega (arith, ints, c.weighted-c.ensures.size) in
     let f4 : FitsSigned w128 (c.weighted-a.result +ℤ c.weighted-b.result) = omega (arith, ints, c.weighted-a.ensures.size, c.weighted-b.ensures.size) in
     let f5 : FitsSigned w128 ((c.weighted-a.result +ℤ c.weighted-b.result) +ℤ c.weighted-c.result) =
-          omega (arith, ints, c.weighted-a.ensures.size, c.weighted-b.ensures.size, c.weighted-c.ensures.size) in
+    omega (arith, ints, c.weighted-a.ensures.size, c.weighted-b.ensures.size, c.weighted-c.ensures.size) in
     simp to_z-of_z (omega (arith, ints, c.weighted-a.ensures.size, c.weighted-b.ensures.size, c.weighted-c.ensures.size))
