@@ -5,11 +5,10 @@ mod answer;
 mod cell;
 mod status;
 mod stop;
-mod top;
-mod words;
-
 #[cfg(test)]
 mod tests;
+mod top;
+mod words;
 
 pub use status::Status;
 pub use top::run;
