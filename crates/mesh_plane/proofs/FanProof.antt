@@ -15,7 +15,8 @@ after_scaled s h North line a b f = (ap (λ i. s *ℤ i) f.0, grow_lt s b.u a.u 
 after_scaled s h West line a b f = (ap (λ i. s *ℤ i) f.0, grow_lt s b.v a.v h f.1)
 
 -- what is strictly inside stays so
-pub inside_scaled : (s : ℤ) → pos 1 ≤ℤ s → (r : Rect) (p : Point) → InsideRect r p → InsideRect (grown s r) (point (s *ℤ p.u) (s *ℤ p.v))
+pub inside_scaled : (s : ℤ) → pos 1 ≤ℤ s → (r : Rect) (p : Point) → InsideRect r p
+    → InsideRect (grown s r) (point (s *ℤ p.u) (s *ℤ p.v))
 inside_scaled s h r p i = record {
   west = grow_lt s r.west p.u h i.west;
   south = grow_lt s r.south p.v h i.south;
@@ -24,9 +25,11 @@ inside_scaled s h r p i = record {
 }
 
 module _ {A : Type 0} (at : A → Point) (z : A → ℤ) (s : ℤ) (h : pos 1 ≤ℤ s) where
-  follow_scaled : (side : Side) (line : ℤ) (a : A) (bs : List A) → Follow at side line a bs → Follow (scaled at z s) side (s *ℤ line) a bs
+  follow_scaled : (side : Side) (line : ℤ) (a : A) (bs : List A) → Follow at side line a bs
+      → Follow (scaled at z s) side (s *ℤ line) a bs
   follow_scaled side line a [] f = tt
-  follow_scaled side line a (b ∷ bs) f = (after_scaled s h side line (at a) (at b) f.0, follow_scaled side line b bs f.1)
+  follow_scaled side line a (b ∷ bs) f =
+      (after_scaled s h side line (at a) (at b) f.0, follow_scaled side line b bs f.1)
 
   -- a ring stays one
   pub ring_scaled : (r : Rect) (g : Ring A) → IsRing at r g → IsRing (scaled at z s) (grown s r) g
@@ -43,7 +46,8 @@ module _ {A : Type 0} (at : A → Point) (z : A → ℤ) (s : ℤ) (h : pos 1 �
 
 pub fan_law : FanLaw
 fan_law r c g i ring =
-    tiles_at_each_scale (λ k. point k.u k.v) (λ k. k.h) (λ s p. InRect (grown s r) p) (λ s p. InsideRect (grown s r) p)
+    tiles_at_each_scale (λ k. point k.u k.v) (λ k. k.h) (λ s p. InRect (grown s r) p)
+    (λ s p. InsideRect (grown s r) p)
     (fan c g.south_west (round g))
     (λ s h. fan_tiles (scaled (λ k. point k.u k.v) (λ k. k.h) s) (grown s r) c g
     (inside_scaled s h r (point c.u c.v) i)

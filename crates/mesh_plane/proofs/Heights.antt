@@ -15,13 +15,15 @@ use Rattle.mesh_plane.proofs.Tilings.{area, Within, Held, all_append, all_map}
 -- a factor above 0 is cancelled
 pub cancelled : (w a b : ℤ) → pos 0 <ℤ w → w *ℤ a ≡ w *ℤ b → a ≡ b
 cancelled w a b h e =
-    let n : a -ℤ b ≡ pos 0 = factor_nought w (a -ℤ b) h (omega (arith, ints, e, difference w a b)) in omega (arith, ints, n)
+    let n : a -ℤ b ≡ pos 0 =
+    factor_nought w (a -ℤ b) h (omega (arith, ints, e, difference w a b)) in omega (arith, ints, n)
 
 module _ {A : Type 0} (at : A → Point) (z : A → ℤ) where
   -- the height of the triangle's plane at p, times the doubled area
   abbrev pub lift : Triple A → Point → ℤ
   lift t p =
-      (z t.a *ℤ turn (at t.b) (at t.c) p +ℤ z t.b *ℤ turn (at t.c) (at t.a) p) +ℤ z t.c *ℤ turn (at t.a) (at t.b) p
+      (z t.a *ℤ turn (at t.b) (at t.c) p +ℤ z t.b *ℤ turn (at t.c) (at t.a) p) +ℤ z t.c *ℤ turn (at t.a)
+      (at t.b) p
 
   module _ (p : Point) where
     -- both planes have one height at the point
@@ -45,18 +47,21 @@ module _ {A : Type 0} (at : A → Point) (z : A → ℤ) where
     abbrev pub Cross : List (Triple A) → List (Triple A) → Type 0
     Cross ts us = Each (λ t. Each (Agree t) us) ts
 
-    -- ---- to show something of those that hold the point, one may suppose that some triangle of the list does
+    -- ---- to show something of those that hold the point, one may suppose that some triangle of the list
+    -- does
     pub all_when : (X : Triple A → Type 0) (ts : List (Triple A)) → (Held at p ts → Each X ts) → Each X ts
     all_when X [] k = tt
     all_when X (t ∷ ts) k = (λ h. (k (inl h)).0 h, all_when X ts (λ h. (k (inr h)).1))
 
-    all_later : (H : Type 0) (X : Triple A → Type 0) (ts : List (Triple A)) → (H → AllByRecursion X ts) → AllByRecursion (λ t. H → X t) ts
+    all_later : (H : Type 0) (X : Triple A → Type 0) (ts : List (Triple A)) → (H → AllByRecursion X ts)
+        → AllByRecursion (λ t. H → X t) ts
     all_later H X [] f = tt
     all_later H X (t ∷ ts) f = (λ h. (f h).0, all_later H X ts (λ h. (f h).1))
 
     pub cross_when : (ts us : List (Triple A)) → (Held at p ts → Held at p us → Cross ts us) → Cross ts us
     cross_when ts us f = all_when (λ t. Each (Agree t) us) ts (λ held.
-        all_map (λ t. Held at p us → Within at t p → Each (Agree t) us) (λ t. Within at t p → Each (Agree t) us)
+        all_map (λ t. Held at p us → Within at t p → Each (Agree t) us) (λ t. Within at t p
+        → Each (Agree t) us)
         (λ t g i. all_when (Agree t) us (λ h. g h i)) ts
         (all_later (Held at p us) (λ t. Within at t p → Each (Agree t) us) ts (λ h. f held h)))
 
@@ -78,26 +83,33 @@ module _ {A : Type 0} (at : A → Point) (z : A → ℤ) where
     pub levels_agree : (m l : ℤ) (t u : Triple A) → pos 0 <ℤ m → AtLevel m l t → AtLevel m l u → Agree t u
     levels_agree m l t u hm h k =
         cancelled m (lift t p *ℤ area at u) (lift u p *ℤ area at t) hm
-        (by_ring (mul (var 0) (mul (var 1) (var 2))) (mul (mul (var 1) (var 0)) (var 2)) (m ∷ lift t p ∷ area at u ∷ []) refl
+        (by_ring (mul (var 0) (mul (var 1) (var 2))) (mul (mul (var 1) (var 0)) (var 2))
+        (m ∷ lift t p ∷ area at u ∷ []) refl
         ∙ ap (λ i. i *ℤ area at u) h
-        ∙ by_ring (mul (mul (var 0) (var 1)) (var 2)) (mul (mul (var 0) (var 2)) (var 1)) (l ∷ area at t ∷ area at u ∷ []) refl
+        ∙ by_ring (mul (mul (var 0) (var 1)) (var 2)) (mul (mul (var 0) (var 2)) (var 1))
+        (l ∷ area at t ∷ area at u ∷ []) refl
         ∙ ap (λ i. i *ℤ area at t) (sym k)
-        ∙ by_ring (mul (mul (var 1) (var 0)) (var 2)) (mul (var 0) (mul (var 1) (var 2))) (m ∷ lift u p ∷ area at t ∷ []) refl)
+        ∙ by_ring (mul (mul (var 1) (var 0)) (var 2)) (mul (var 0) (mul (var 1) (var 2)))
+        (m ∷ lift u p ∷ area at t ∷ []) refl)
 
     pub agreed : (m l : ℤ) (t u : Triple A) → pos 0 <ℤ area at t → AtLevel m l t → Agree t u → AtLevel m l u
     agreed m l t u ht h e =
         cancelled (area at t) (lift u p *ℤ m) (l *ℤ area at u) ht
-        (by_ring (mul (var 0) (mul (var 1) (var 2))) (mul (mul (var 1) (var 0)) (var 2)) (area at t ∷ lift u p ∷ m ∷ []) refl
+        (by_ring (mul (var 0) (mul (var 1) (var 2))) (mul (mul (var 1) (var 0)) (var 2))
+        (area at t ∷ lift u p ∷ m ∷ []) refl
         ∙ ap (λ i. i *ℤ m) (sym e)
-        ∙ by_ring (mul (mul (var 0) (var 1)) (var 2)) (mul (mul (var 0) (var 2)) (var 1)) (lift t p ∷ area at u ∷ m ∷ []) refl
+        ∙ by_ring (mul (mul (var 0) (var 1)) (var 2)) (mul (mul (var 0) (var 2)) (var 1))
+        (lift t p ∷ area at u ∷ m ∷ []) refl
         ∙ ap (λ i. i *ℤ area at u) h
-        ∙ by_ring (mul (mul (var 0) (var 1)) (var 2)) (mul (var 1) (mul (var 0) (var 2))) (l ∷ area at t ∷ area at u ∷ []) refl)
+        ∙ by_ring (mul (mul (var 0) (var 1)) (var 2)) (mul (var 1) (mul (var 0) (var 2)))
+        (l ∷ area at t ∷ area at u ∷ []) refl)
 
     -- the triangles that hold the point have the height l/m there
     abbrev pub Has : ℤ → ℤ → List (Triple A) → Type 0
     Has m l ts = Each (AtLevel m l) ts
 
-    pub cross_levels : (m l : ℤ) (ts us : List (Triple A)) → pos 0 <ℤ m → Has m l ts → Has m l us → Cross ts us
+    pub cross_levels : (m l : ℤ) (ts us : List (Triple A)) → pos 0 <ℤ m → Has m l ts → Has m l us
+        → Cross ts us
     cross_levels m l ts us hm h k =
         all_map (λ t. Within at t p → AtLevel m l t) (λ t. Within at t p → Each (Agree t) us)
         (λ t f i. all_map (λ u. Within at u p → AtLevel m l u) (λ u. Within at u p → Agree t u)
@@ -108,7 +120,8 @@ module _ {A : Type 0} (at : A → Point) (z : A → ℤ) where
     Shown m l [] = ⊥
     Shown m l (t ∷ ts) = ((pos 0 <ℤ area at t) × Within at t p × AtLevel m l t) ⊎ Shown m l ts
 
-    head_level : (m l : ℤ) (t : Triple A) (ts : List (Triple A)) → Each (Agree t) ts → Shown m l ts → AtLevel m l t
+    head_level : (m l : ℤ) (t : Triple A) (ts : List (Triple A)) → Each (Agree t) ts → Shown m l ts
+        → AtLevel m l t
     head_level m l t [] a h = elim h [ ]
     head_level m l t (u ∷ ts) a (inl h) = agreed m l u t h.0 h.2 (sym (a.0 h.1))
     head_level m l t (u ∷ ts) a (inr h) = head_level m l t ts a.1 h
@@ -143,7 +156,8 @@ module _ {A : Type 0} (at : A → Point) (z : A → ℤ) where
     has_right m l (u ∷ us) vs x (inr s) = has_right m l us vs x.1 s
 
     -- two lists that agree with a third, which holds the point
-    pub cross_through : (ts us vs : List (Triple A)) → AllByRecursion (λ t. pos 0 <ℤ area at t) us → Held at p us
+    pub cross_through : (ts us vs : List (Triple A)) → AllByRecursion (λ t. pos 0 <ℤ area at t) us
+        → Held at p us
         → Cross ts us → Cross us vs → Cross ts vs
     cross_through ts us vs c h x y =
         let r = some_shown us c h in
@@ -151,7 +165,9 @@ module _ {A : Type 0} (at : A → Point) (z : A → ℤ) where
 
     -- four lists, of which each two agree
     pub four_levels : (a b c d : List (Triple A)) → OneLevel a → OneLevel b → OneLevel c → OneLevel d
-        → Cross a b → Cross a c → Cross a d → Cross b c → Cross b d → Cross c d → OneLevel (a ++ (b ++ (c ++ d)))
+        → Cross a b → Cross a c → Cross a d → Cross b c → Cross b d → Cross c d
+        → OneLevel (a ++ (b ++ (c ++ d)))
     four_levels a b c d oa ob oc od ab ac ad bc bd cd =
-        one_append a (b ++ (c ++ d)) oa (one_append b (c ++ d) ob (one_append c d oc od cd) (cross_right b c d bc bd))
+        one_append a (b ++ (c ++ d)) oa
+        (one_append b (c ++ d) ob (one_append c d oc od cd) (cross_right b c d bc bd))
         (cross_right a b (c ++ d) ab (cross_right a c d ac ad))

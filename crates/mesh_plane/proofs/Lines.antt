@@ -26,14 +26,16 @@ no_reach East line a e = omega (arith, ints, e)
 no_reach North line a e = omega (arith, ints, e)
 no_reach West line a e = omega (arith, ints, e)
 
-pub goes : (side : Side) (line : ℤ) (a b : Point) → across side a ≡ line → ComesAfter side line a b → Goes (reach side line) a b
+pub goes : (side : Side) (line : ℤ) (a b : Point) → across side a ≡ line → ComesAfter side line a b
+    → Goes (reach side line) a b
 goes South line a b e f = record {
   w = b.u -ℤ a.u;
   far = omega (arith, ints, f.1);
   turns = λ p.
       ap (λ i. (b.u -ℤ a.u) *ℤ (p.v -ℤ i) -ℤ (b.v -ℤ i) *ℤ (p.u -ℤ a.u)) e
       ∙ ap (λ i. (b.u -ℤ a.u) *ℤ (p.v -ℤ line) -ℤ (i -ℤ line) *ℤ (p.u -ℤ a.u)) f.0
-      ∙ by_ring (turned (var 0) (var 2) (var 1) (var 2) (var 3) (var 4)) (mul (sub (var 1) (var 0)) (sub (var 4) (var 2)))
+      ∙ by_ring (turned (var 0) (var 2) (var 1) (var 2) (var 3) (var 4))
+      (mul (sub (var 1) (var 0)) (sub (var 4) (var 2)))
       (a.u ∷ b.u ∷ line ∷ p.u ∷ p.v ∷ []) refl;
 }
 goes East line a b e f = record {
@@ -42,7 +44,8 @@ goes East line a b e f = record {
   turns = λ p.
       ap (λ i. (b.u -ℤ i) *ℤ (p.v -ℤ a.v) -ℤ (b.v -ℤ a.v) *ℤ (p.u -ℤ i)) e
       ∙ ap (λ i. (i -ℤ line) *ℤ (p.v -ℤ a.v) -ℤ (b.v -ℤ a.v) *ℤ (p.u -ℤ line)) f.0
-      ∙ by_ring (turned (var 2) (var 0) (var 2) (var 1) (var 3) (var 4)) (mul (sub (var 1) (var 0)) (sub (var 2) (var 3)))
+      ∙ by_ring (turned (var 2) (var 0) (var 2) (var 1) (var 3) (var 4))
+      (mul (sub (var 1) (var 0)) (sub (var 2) (var 3)))
       (a.v ∷ b.v ∷ line ∷ p.u ∷ p.v ∷ []) refl;
 }
 goes North line a b e f = record {
@@ -51,7 +54,8 @@ goes North line a b e f = record {
   turns = λ p.
       ap (λ i. (b.u -ℤ a.u) *ℤ (p.v -ℤ i) -ℤ (b.v -ℤ i) *ℤ (p.u -ℤ a.u)) e
       ∙ ap (λ i. (b.u -ℤ a.u) *ℤ (p.v -ℤ line) -ℤ (i -ℤ line) *ℤ (p.u -ℤ a.u)) f.0
-      ∙ by_ring (turned (var 0) (var 2) (var 1) (var 2) (var 3) (var 4)) (mul (sub (var 0) (var 1)) (sub (var 2) (var 4)))
+      ∙ by_ring (turned (var 0) (var 2) (var 1) (var 2) (var 3) (var 4))
+      (mul (sub (var 0) (var 1)) (sub (var 2) (var 4)))
       (a.u ∷ b.u ∷ line ∷ p.u ∷ p.v ∷ []) refl;
 }
 goes West line a b e f = record {
@@ -60,7 +64,8 @@ goes West line a b e f = record {
   turns = λ p.
       ap (λ i. (b.u -ℤ i) *ℤ (p.v -ℤ a.v) -ℤ (b.v -ℤ a.v) *ℤ (p.u -ℤ i)) e
       ∙ ap (λ i. (i -ℤ line) *ℤ (p.v -ℤ a.v) -ℤ (b.v -ℤ a.v) *ℤ (p.u -ℤ line)) f.0
-      ∙ by_ring (turned (var 2) (var 0) (var 2) (var 1) (var 3) (var 4)) (mul (sub (var 0) (var 1)) (sub (var 3) (var 2)))
+      ∙ by_ring (turned (var 2) (var 0) (var 2) (var 1) (var 3) (var 4))
+      (mul (sub (var 0) (var 1)) (sub (var 3) (var 2)))
       (a.v ∷ b.v ∷ line ∷ p.u ∷ p.v ∷ []) refl;
 }
 
@@ -90,13 +95,15 @@ module _ {A : Type 0} (at : A → Point) where
   )
 
   -- a sweep of outer steps alone, up to the point e
-  pub outers_tile : (h : Point → ℤ) (m : ℤ) (c o e : A) (xs : List A) → pos 0 <ℤ m → h (at o) ≡ pos 0 → h (at c) ≡ m
+  pub outers_tile : (h : Point → ℤ) (m : ℤ) (c o e : A) (xs : List A) → pos 0 <ℤ m → h (at o) ≡ pos 0
+      → h (at c) ≡ m
       → Moves at h m o c (map Outer (xs ++ e ∷ []))
       → Tiling at (Band at h m o c e c) (OpenBand at h m o c e c) (sweep at o c (map Outer (xs ++ e ∷ [])))
   outers_tile h m c o e [] hm ho hc s = sweep_tiles at h m o c (Outer e) [] hm ho hc s
   outers_tile h m c o e (x ∷ xs) hm ho hc s =
       let ts = sweep at o c (Outer x ∷ map Outer (xs ++ e ∷ [])) in
-      subst (λ (k : A). Tiling at (Band at h m o c e k) (OpenBand at h m o c e k) ts) (outers_stay c (xs ++ e ∷ []))
+      subst (λ (k : A). Tiling at (Band at h m o c e k) (OpenBand at h m o c e k) ts)
+      (outers_stay c (xs ++ e ∷ []))
       (subst
       (λ (k : A). Tiling at (Band at h m o c k (inner_end c (map Outer (xs ++ e ∷ []))))
       (OpenBand at h m o c k (inner_end c (map Outer (xs ++ e ∷ [])))) ts)
@@ -110,7 +117,8 @@ module _ {A : Type 0} (at : A → Point) where
       → Tiling at (Band at h m o n o' n') (OpenBand at h m o n o' n') ts
       → Tiling at (λ p. Sector m (h p) a (A₁ p) b (B₁ p)) (λ p. OpenSector m (h p) a (A₁ p) b (B₁ p)) ts
   band_sector h A₁ B₁ m a b o n o' n' ts f g t =
-      tiling_same at (Band at h m o n o' n') (OpenBand at h m o n o' n') (λ p. Sector m (h p) a (A₁ p) b (B₁ p))
+      tiling_same at (Band at h m o n o' n') (OpenBand at h m o n o' n')
+      (λ p. Sector m (h p) a (A₁ p) b (B₁ p))
       (λ p. OpenSector m (h p) a (A₁ p) b (B₁ p)) ts
       (λ p i. record {
         above = i.above;

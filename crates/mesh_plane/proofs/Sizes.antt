@@ -9,8 +9,10 @@ use Rattle.polynomial.proofs.NormalForm.{by_ring}
 use Rattle.polynomial.proofs.Signs.{times_nonneg}
 use Rattle.mesh_plane.specs.Surface.{IsCeiling}
 
-pub size_product : (a b : ℤ) (m n : ℕ) → unsigned_abs a ≤ m → unsigned_abs b ≤ n → unsigned_abs (a *ℤ b) ≤ m * n
-size_product a b m n h k = omega (arith, unsigned_abs-mul a b, mul-le (unsigned_abs a) (unsigned_abs b) m n h k)
+pub size_product : (a b : ℤ) (m n : ℕ) → unsigned_abs a ≤ m → unsigned_abs b ≤ n
+    → unsigned_abs (a *ℤ b) ≤ m * n
+size_product a b m n h k =
+    omega (arith, unsigned_abs-mul a b, mul-le (unsigned_abs a) (unsigned_abs b) m n h k)
 
 -- one more than the whole part of (over - 1)/under is the least whole number that is at least over/under
 ceiling : (x under : ℕ) → 0 < under → IsCeiling (pos (suc x)) (pos under) (pos (x / under + 1))
@@ -20,7 +22,8 @@ ceiling x under h = record {
     ints,
     div-add-mod' x under,
     mod-lt x h,
-    by_ring (mul (add (var 0) (num 1)) (var 1)) (add (mul (var 0) (var 1)) (var 1)) (pos (x / under) ∷ pos under ∷ []) refl,
+    by_ring (mul (add (var 0) (num 1)) (var 1)) (add (mul (var 0) (var 1)) (var 1))
+        (pos (x / under) ∷ pos under ∷ []) refl,
   );
   least = λ k l. by_lt_z k (pos (x / under + 1))
       (λ m. absurd (omega (
@@ -29,7 +32,8 @@ ceiling x under h = record {
         l,
         div-add-mod' x under,
         times_nonneg (pos (x / under) -ℤ k) (pos under) (omega (arith, ints, m)) (omega (arith, ints)),
-        by_ring (mul (sub (var 0) (var 1)) (var 2)) (sub (mul (var 0) (var 2)) (mul (var 1) (var 2))) (pos (x / under) ∷ k ∷ pos under ∷ []) refl,
+        by_ring (mul (sub (var 0) (var 1)) (var 2)) (sub (mul (var 0) (var 2)) (mul (var 1) (var 2)))
+            (pos (x / under) ∷ k ∷ pos under ∷ []) refl,
       )))
       (λ m. m);
 }

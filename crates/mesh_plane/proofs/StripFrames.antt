@@ -35,14 +35,17 @@ pub record AreAt {A : Type 0} (at : A → Point) (r q : Rect) (k : Corners A) : 
   pub inner_north_west : at k.inner_north_west ≡ point q.west q.north
 
 -- a strip from one pair of corners to another
-pub record Runs {A : Type 0} (at : A → Point) (side : Side) (outer inner : ℤ) (o n o' n' : A) (t : Step A) (steps : List (Step A)) : Type 0 where
+pub record Runs {A : Type 0} (at : A
+    → Point) (side : Side) (outer inner : ℤ) (o n o' n' : A) (t : Step A)
+    (steps : List (Step A)) : Type 0 where
   pub ascends : Ascend at side outer inner o n (t ∷ steps)
   pub outer_to : outer_end o (t ∷ steps) ≡ o'
   pub inner_to : inner_end n (t ∷ steps) ≡ n'
 
 module _ {A : Type 0} (at : A → Point) where
   -- what lies between the lines and the ends of a strip, as a sector
-  band_sector : (side : Side) (outer inner a b : ℤ) (A₁ B₁ : Point → ℤ) (o n o' n' : Point) (ts : List (Triple A))
+  band_sector : (side : Side) (outer inner a b : ℤ) (A₁ B₁ : Point
+      → ℤ) (o n o' n' : Point) (ts : List (Triple A))
       → ((p : Point) → lean side o n p ≡ a *ℤ reach side outer p -ℤ depth side outer inner *ℤ A₁ p)
       → ((p : Point) → lean side o' n' p ≡ depth side outer inner *ℤ B₁ p -ℤ b *ℤ reach side outer p)
       → Tiling at (InBand side outer inner o n o' n') (InsideBand side outer inner o n o' n') ts
@@ -83,13 +86,16 @@ module _ {A : Type 0} (at : A → Point) where
       (λ p i. record { above = i.above; below = i.below; first = i.second; second = i.first })
       (λ p i. record { above = i.above; below = i.below; first = i.second; second = i.first }) t
 
-  pub runs_tile : (side : Side) (outer inner : ℤ) (o n o' n' : A) (t : Step A) (steps : List (Step A)) → IsOutside side outer inner
+  pub runs_tile : (side : Side) (outer inner : ℤ) (o n o' n' : A) (t : Step A) (steps : List (Step A))
+      → IsOutside side outer inner
       → across side (at o) ≡ outer → across side (at n) ≡ inner → Runs at side outer inner o n o' n' t steps
-      → Tiling at (InBand side outer inner (at o) (at n) (at o') (at n')) (InsideBand side outer inner (at o) (at n) (at o') (at n'))
+      → Tiling at (InBand side outer inner (at o) (at n) (at o') (at n'))
+      (InsideBand side outer inner (at o) (at n) (at o') (at n'))
       (strip side o n (t ∷ steps))
   runs_tile side outer inner o n o' n' t steps l ho hn r =
       let ts = strip side o n (t ∷ steps) in
-      subst (λ (k : A). Tiling at (InBand side outer inner (at o) (at n) (at o') (at k)) (InsideBand side outer inner (at o) (at n) (at o') (at k)) ts) r.inner_to
+      subst (λ (k : A). Tiling at (InBand side outer inner (at o) (at n) (at o') (at k))
+      (InsideBand side outer inner (at o) (at n) (at o') (at k)) ts) r.inner_to
       (subst
       (λ (k : A). Tiling at (InBand side outer inner (at o) (at n) (at k) (at (inner_end n (t ∷ steps))))
       (InsideBand side outer inner (at o) (at n) (at k) (at (inner_end n (t ∷ steps)))) ts) r.outer_to
@@ -121,37 +127,48 @@ module _ {A : Type 0} (at : A → Point) where
         ∙ ap (λ j. turn (point r.west r.north) j p) places.inner_north_west ∙ north_west_turn r q p
 
     pub south_strip : (t : Step A) (steps : List (Step A))
-        → Runs at South r.south q.south k.south_west k.inner_south_west k.south_east k.inner_south_east t steps
-        → Tiling at (SouthSector r q) (OpenSouth r q) (strip South k.south_west k.inner_south_west (t ∷ steps))
+        → Runs at South r.south q.south k.south_west k.inner_south_west k.south_east k.inner_south_east t
+        steps
+        → Tiling at (SouthSector r q) (OpenSouth r q)
+        (strip South k.south_west k.inner_south_west (t ∷ steps))
     south_strip t steps run =
-        band_sector South r.south q.south (q.west -ℤ r.west) (r.east -ℤ q.east) (λ p. p.u -ℤ r.west) (λ p. r.east -ℤ p.u)
+        band_sector South r.south q.south (q.west -ℤ r.west) (r.east -ℤ q.east) (λ p. p.u -ℤ r.west)
+        (λ p. r.east -ℤ p.u)
         (at k.south_west) (at k.inner_south_west) (at k.south_east) (at k.inner_south_east)
         (strip South k.south_west k.inner_south_west (t ∷ steps)) sw_turn se_turn
-        (runs_tile South r.south q.south k.south_west k.inner_south_west k.south_east k.inner_south_east t steps i.south
+        (runs_tile South r.south q.south k.south_west k.inner_south_west k.south_east k.inner_south_east t
+        steps i.south
         (ap (λ p. p.v) places.south_west) (ap (λ p. p.v) places.inner_south_west) run)
 
     pub east_strip : (t : Step A) (steps : List (Step A))
         → Runs at East r.east q.east k.south_east k.inner_south_east k.north_east k.inner_north_east t steps
         → Tiling at (EastSector r q) (OpenEast r q) (strip East k.south_east k.inner_south_east (t ∷ steps))
     east_strip t steps run =
-        band_sector East r.east q.east (q.south -ℤ r.south) (r.north -ℤ q.north) (λ p. p.v -ℤ r.south) (λ p. r.north -ℤ p.v)
+        band_sector East r.east q.east (q.south -ℤ r.south) (r.north -ℤ q.north) (λ p. p.v -ℤ r.south)
+        (λ p. r.north -ℤ p.v)
         (at k.south_east) (at k.inner_south_east) (at k.north_east) (at k.inner_north_east)
         (strip East k.south_east k.inner_south_east (t ∷ steps)) se_turn ne_turn
-        (runs_tile East r.east q.east k.south_east k.inner_south_east k.north_east k.inner_north_east t steps i.east
+        (runs_tile East r.east q.east k.south_east k.inner_south_east k.north_east k.inner_north_east t steps
+        i.east
         (ap (λ p. p.u) places.south_east) (ap (λ p. p.u) places.inner_south_east) run)
 
     pub north_strip : (t : Step A) (steps : List (Step A))
-        → Runs at North r.north q.north k.north_west k.inner_north_west k.north_east k.inner_north_east t steps
-        → Tiling at (NorthSector r q) (OpenNorth r q) (strip North k.north_west k.inner_north_west (t ∷ steps))
+        → Runs at North r.north q.north k.north_west k.inner_north_west k.north_east k.inner_north_east t
+        steps
+        → Tiling at (NorthSector r q) (OpenNorth r q)
+        (strip North k.north_west k.inner_north_west (t ∷ steps))
     north_strip t steps run =
         let ts = strip North k.north_west k.inner_north_west (t ∷ steps) in
-        sector_swapped (r.north -ℤ q.north) (q.west -ℤ r.west) (r.east -ℤ q.east) (λ p. r.north -ℤ p.v) (λ p. p.u -ℤ r.west)
+        sector_swapped (r.north -ℤ q.north) (q.west -ℤ r.west) (r.east -ℤ q.east) (λ p. r.north -ℤ p.v)
+        (λ p. p.u -ℤ r.west)
         (λ p. r.east -ℤ p.u) ts
-        (band_sector North r.north q.north (q.west -ℤ r.west) (r.east -ℤ q.east) (λ p. p.u -ℤ r.west) (λ p. r.east -ℤ p.u)
+        (band_sector North r.north q.north (q.west -ℤ r.west) (r.east -ℤ q.east) (λ p. p.u -ℤ r.west)
+        (λ p. r.east -ℤ p.u)
         (at k.north_west) (at k.inner_north_west) (at k.north_east) (at k.inner_north_east) ts
         (λ p. omega (arith, ints, nw_turn p, turned_back (at k.north_west) (at k.inner_north_west) p))
         (λ p. omega (arith, ints, ne_turn p, turned_back (at k.north_east) (at k.inner_north_east) p))
-        (runs_tile North r.north q.north k.north_west k.inner_north_west k.north_east k.inner_north_east t steps i.north
+        (runs_tile North r.north q.north k.north_west k.inner_north_west k.north_east k.inner_north_east t
+        steps i.north
         (ap (λ p. p.v) places.north_west) (ap (λ p. p.v) places.inner_north_west) run))
 
     pub west_strip : (t : Step A) (steps : List (Step A))
@@ -159,30 +176,38 @@ module _ {A : Type 0} (at : A → Point) where
         → Tiling at (WestSector r q) (OpenWest r q) (strip West k.south_west k.inner_south_west (t ∷ steps))
     west_strip t steps run =
         let ts = strip West k.south_west k.inner_south_west (t ∷ steps) in
-        sector_swapped (q.west -ℤ r.west) (q.south -ℤ r.south) (r.north -ℤ q.north) (λ p. p.u -ℤ r.west) (λ p. p.v -ℤ r.south)
+        sector_swapped (q.west -ℤ r.west) (q.south -ℤ r.south) (r.north -ℤ q.north) (λ p. p.u -ℤ r.west)
+        (λ p. p.v -ℤ r.south)
         (λ p. r.north -ℤ p.v) ts
-        (band_sector West r.west q.west (q.south -ℤ r.south) (r.north -ℤ q.north) (λ p. p.v -ℤ r.south) (λ p. r.north -ℤ p.v)
+        (band_sector West r.west q.west (q.south -ℤ r.south) (r.north -ℤ q.north) (λ p. p.v -ℤ r.south)
+        (λ p. r.north -ℤ p.v)
         (at k.south_west) (at k.inner_south_west) (at k.north_west) (at k.inner_north_west) ts
         (λ p. omega (arith, ints, sw_turn p, turned_back (at k.south_west) (at k.inner_south_west) p))
         (λ p. omega (arith, ints, nw_turn p, turned_back (at k.north_west) (at k.inner_north_west) p))
-        (runs_tile West r.west q.west k.south_west k.inner_south_west k.north_west k.inner_north_west t steps i.west
+        (runs_tile West r.west q.west k.south_west k.inner_south_west k.north_west k.inner_north_west t steps
+        i.west
         (ap (λ p. p.u) places.south_west) (ap (λ p. p.u) places.inner_south_west) run))
 
     joined : (s e n w qs : List (Triple A)) → (s ++ (e ++ (n ++ w))) ++ qs ≡ s ++ (e ++ (n ++ (w ++ qs)))
     joined s e n w qs =
-        split s (e ++ (n ++ w)) ∙ ap (λ (ts : List (Triple A)). s ++ ts) (split e (n ++ w) ∙ ap (λ (ts : List (Triple A)). e ++ ts) (split n w))
+        split s (e ++ (n ++ w))
+        ∙ ap (λ (ts : List (Triple A)). s ++ ts) (split e (n ++ w)
+        ∙ ap (λ (ts : List (Triple A)). e ++ ts) (split n w))
       where
         split : (xs ys : List (Triple A)) → (xs ++ ys) ++ qs ≡ xs ++ (ys ++ qs)
         split [] ys = refl
         split (x ∷ xs) ys = ap (λ (ts : List (Triple A)). x ∷ ts) (split xs ys)
 
     -- four strips and the inner rectangle
-    pub framed : (s e n w qs : List (Triple A)) → Tiling at (SouthSector r q) (OpenSouth r q) s → Tiling at (EastSector r q) (OpenEast r q) e
+    pub framed : (s e n w qs : List (Triple A)) → Tiling at (SouthSector r q) (OpenSouth r q) s
+        → Tiling at (EastSector r q) (OpenEast r q) e
         → Tiling at (NorthSector r q) (OpenNorth r q) n → Tiling at (WestSector r q) (OpenWest r q) w
-        → Tiling at (InRect q) (InsideRect q) qs → Tiling at (InRect r) (InsideRect r) (s ++ (e ++ (n ++ (w ++ qs))))
+        → Tiling at (InRect q) (InsideRect q) qs
+        → Tiling at (InRect r) (InsideRect r) (s ++ (e ++ (n ++ (w ++ qs))))
     framed s e n w qs hs he hn hw hq =
         subst (λ (ts : List (Triple A)). Tiling at (InRect r) (InsideRect r) ts) (joined s e n w qs)
-        (tiling_append at (InRect r) (InsideRect r) (InFrame r q) (InsideFrame r q) (InRect q) (InsideRect q) (s ++ (e ++ (n ++ w))) qs
+        (tiling_append at (InRect r) (InsideRect r) (InFrame r q) (InsideFrame r q) (InRect q) (InsideRect q)
+        (s ++ (e ++ (n ++ w))) qs
         (frame_tiles r q i at s e n w hs he hn hw) hq
         (λ p f. by_lt_z q.south p.v
         (λ a. by_lt_z p.u q.east

@@ -19,7 +19,8 @@ module _ {A : Type 0} (at : A → Point) (z : A → ℤ) where
   one_alone p t = ((λ i. tt), tt)
 
   -- the first segment of a sweep, as an edge
-  first_segment : (o n : A) (s : Step A) (steps : List (Step A)) → AllByRecursion (IsCcw at) (sweep at o n (s ∷ steps))
+  first_segment : (o n : A) (s : Step A) (steps : List (Step A))
+      → AllByRecursion (IsCcw at) (sweep at o n (s ∷ steps))
       → HasEdge at z o n (sweep at o n (s ∷ steps))
   first_segment o n (Outer x) steps h =
       let t : Triple A = record { a = o; b = x; c = n } in inl (h.0, meets_a at z t h.0, meets_c at z t h.0)
@@ -28,7 +29,8 @@ module _ {A : Type 0} (at : A → Point) (z : A → ℤ) where
 
   -- a triangle and a sweep that begins with its side from x to n, or from o to x
   module _ (p : Point) where
-    outer_cross : (o n x : A) (us : List (Triple A)) → pos 0 <ℤ area at (record { a = o; b = x; c = n }) → HasEdge at z x n us
+    outer_cross : (o n x : A) (us : List (Triple A)) → pos 0 <ℤ area at (record { a = o; b = x; c = n })
+        → HasEdge at z x n us
         → OneLevel at z p us → (Held at p us → turn (at x) (at n) p ≤ℤ pos 0)
         → Cross at z p (record { a = o; b = x; c = n } ∷ []) us
     outer_cross o n x us h edge one right =
@@ -41,7 +43,8 @@ module _ {A : Type 0} (at : A → Point) (z : A → ℤ) where
         (inl (h, meets_b at z t h, meets_c at z t h)) edge (one_alone p t) one)
         (λ k. absurd k) i)
 
-    inner_cross : (o n x : A) (us : List (Triple A)) → pos 0 <ℤ area at (record { a = o; b = x; c = n }) → HasEdge at z o x us
+    inner_cross : (o n x : A) (us : List (Triple A)) → pos 0 <ℤ area at (record { a = o; b = x; c = n })
+        → HasEdge at z o x us
         → OneLevel at z p us → (Held at p us → turn (at o) (at x) p ≤ℤ pos 0)
         → Cross at z p (record { a = o; b = x; c = n } ∷ []) us
     inner_cross o n x us h edge one right =
@@ -55,7 +58,8 @@ module _ {A : Type 0} (at : A → Point) (z : A → ℤ) where
         (inl (h, meets_a at z t h, meets_b at z t h)) edge (one_alone p t) one)
         (λ k. absurd k) i)
 
-    pub sweep_one : (h : Point → ℤ) (m : ℤ) (o n : A) (s : Step A) (steps : List (Step A)) → pos 0 <ℤ m → h (at o) ≡ pos 0
+    pub sweep_one : (h : Point → ℤ) (m : ℤ) (o n : A) (s : Step A) (steps : List (Step A)) → pos 0 <ℤ m
+        → h (at o) ≡ pos 0
         → h (at n) ≡ m → Moves at h m o n (s ∷ steps) → OneLevel at z p (sweep at o n (s ∷ steps))
     sweep_one h m o n (Outer x) [] hm ho hn s = one_alone p (record { a = o; b = x; c = n })
     sweep_one h m o n (Inner x) [] hm ho hn s = one_alone p (record { a = o; b = x; c = n })
@@ -64,28 +68,36 @@ module _ {A : Type 0} (at : A → Point) (z : A → ℤ) where
         let rest = sweep_tiles at h m x n t steps hm s.1 hn s.2 in
         let us = sweep at x n (t ∷ steps) in
         let one = sweep_one h m x n t steps hm s.1 hn s.2 in
-        one_append at z p (record { a = o; b = x; c = n } ∷ []) us (one_alone p (record { a = o; b = x; c = n })) one
-        (outer_cross o n x us whole.ccw.0 (first_segment x n t steps rest.ccw) one (λ j. (rest.within p j).right))
+        one_append at z p (record { a = o; b = x; c = n } ∷ []) us
+        (one_alone p (record { a = o; b = x; c = n })) one
+        (outer_cross o n x us whole.ccw.0 (first_segment x n t steps rest.ccw) one
+        (λ j. (rest.within p j).right))
     sweep_one h m o n (Inner x) (t ∷ steps) hm ho hn s =
         let whole = sweep_tiles at h m o n (Inner x) (t ∷ steps) hm ho hn s in
         let rest = sweep_tiles at h m o x t steps hm ho s.1 s.2 in
         let us = sweep at o x (t ∷ steps) in
         let one = sweep_one h m o x t steps hm ho s.1 s.2 in
-        one_append at z p (record { a = o; b = x; c = n } ∷ []) us (one_alone p (record { a = o; b = x; c = n })) one
-        (inner_cross o n x us whole.ccw.0 (first_segment o x t steps rest.ccw) one (λ j. (rest.within p j).right))
+        one_append at z p (record { a = o; b = x; c = n } ∷ []) us
+        (one_alone p (record { a = o; b = x; c = n })) one
+        (inner_cross o n x us whole.ccw.0 (first_segment o x t steps rest.ccw) one
+        (λ j. (rest.within p j).right))
 
 -- ---- lists of which each triangle is turned on or mirrored
 -- f t has at p the height and the area that t has at back p
-pub record SameHeights {A : Type 0} (from to : A → Point) (z : A → ℤ) (f : Triple A → Triple A) (back : Point → Point) : Type 0 where
+pub record SameHeights {A : Type 0} (from to : A → Point) (z : A → ℤ) (f : Triple A → Triple A) (back : Point
+    → Point) : Type 0 where
   pub alike : Alike from to f back
   pub area_is : (t : Triple A) → area to (f t) ≡ area from t
   pub lift_is : (t : Triple A) (p : Point) → lift to z (f t) p ≡ lift from z t (back p)
 
-module _ {A : Type 0} (from to : A → Point) (z : A → ℤ) (f : Triple A → Triple A) (back : Point → Point) (same : SameHeights from to z f back) (p : Point) where
+module _ {A : Type 0} (from to : A → Point) (z : A → ℤ) (f : Triple A → Triple A) (back : Point
+    → Point) (same : SameHeights from to z f back) (p : Point) where
   agree_moved : (t u : Triple A) → Agree from z (back p) t u → Agree to z p (f t) (f u)
   agree_moved t u h =
-      ap (λ i. i *ℤ area to (f u)) (same.lift_is t p) ∙ ap (λ i. lift from z t (back p) *ℤ i) (same.area_is u) ∙ h
-      ∙ sym (ap (λ i. i *ℤ area to (f t)) (same.lift_is u p) ∙ ap (λ i. lift from z u (back p) *ℤ i) (same.area_is t))
+      ap (λ i. i *ℤ area to (f u)) (same.lift_is t p)
+      ∙ ap (λ i. lift from z t (back p) *ℤ i) (same.area_is u) ∙ h
+      ∙ sym (ap (λ i. i *ℤ area to (f t)) (same.lift_is u p)
+      ∙ ap (λ i. lift from z u (back p) *ℤ i) (same.area_is t))
 
   each_moved : (t : Triple A) (ts : List (Triple A)) → Each from z (back p) (Agree from z (back p) t) ts
       → Each to z p (Agree to z p (f t)) (map f ts)

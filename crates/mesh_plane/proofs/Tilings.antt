@@ -50,7 +50,8 @@ module _ {A : Type 0} (at : A → Point) where
   NoneTwice p [] = Unit {0}
   NoneTwice p (t ∷ ts) = (Inside t p → ¬ HeldInside p ts) × NoneTwice p ts
 
-  -- the triangles hold the points of the region, no others, and none strictly twice; what they hold strictly is
+  -- the triangles hold the points of the region, no others, and none strictly twice; what they hold strictly
+  -- is
   -- in the region's inside
   pub record Tiling (region inside : Point → Type 0) (ts : List (Triple A)) : Type 0 where
     pub ccw : AllByRecursion IsCcw ts
@@ -90,20 +91,23 @@ module _ {A : Type 0} (at : A → Point) where
 
   -- ---- tilings of parts make a tiling of the whole
   -- two regions whose insides are apart
-  pub tiling_append : (R S R₁ S₁ R₂ S₂ : Point → Type 0) (ts us : List (Triple A)) → Tiling R₁ S₁ ts → Tiling R₂ S₂ us
+  pub tiling_append : (R S R₁ S₁ R₂ S₂ : Point → Type 0) (ts us : List (Triple A)) → Tiling R₁ S₁ ts
+      → Tiling R₂ S₂ us
       → ((p : Point) → R p → R₁ p ⊎ R₂ p) → ((p : Point) → R₁ p → R p) → ((p : Point) → R₂ p → R p)
       → ((p : Point) → S₁ p → S p) → ((p : Point) → S₂ p → S p) → ((p : Point) → S₁ p → S₂ p → ⊥)
       → Tiling R S (ts ++ us)
   tiling_append R S R₁ S₁ R₂ S₂ ts us h k cut in₁ in₂ on₁ on₂ apart = record {
     ccw = all_append IsCcw ts us h.ccw k.ccw;
     within = λ p w. ⊎_elim (λ x. in₁ p (h.within p x)) (λ y. in₂ p (k.within p y)) (held_split p ts us w);
-    full = λ p r. ⊎_elim (λ x. held_left p ts us (h.full p x)) (λ y. held_right p ts us (k.full p y)) (cut p r);
+    full = λ p r. ⊎_elim (λ x. held_left p ts us (h.full p x)) (λ y. held_right p ts us (k.full p y))
+        (cut p r);
     inner = λ p w. ⊎_elim (λ x. on₁ p (h.inner p x)) (λ y. on₂ p (k.inner p y)) (inside_split p ts us w);
     once = λ p. none_twice p ts us (h.once p) (k.once p) (λ x y. apart p (h.inner p x) (k.inner p y));
   }
 
   -- both regions together
-  pub tiling_union : (R₁ S₁ R₂ S₂ : Point → Type 0) (ts us : List (Triple A)) → Tiling R₁ S₁ ts → Tiling R₂ S₂ us
+  pub tiling_union : (R₁ S₁ R₂ S₂ : Point → Type 0) (ts us : List (Triple A)) → Tiling R₁ S₁ ts
+      → Tiling R₂ S₂ us
       → ((p : Point) → S₁ p → S₂ p → ⊥) → Tiling (λ p. R₁ p ⊎ R₂ p) (λ p. S₁ p ⊎ S₂ p) (ts ++ us)
   tiling_union R₁ S₁ R₂ S₂ ts us h k apart =
       tiling_append (λ p. R₁ p ⊎ R₂ p) (λ p. S₁ p ⊎ S₂ p) R₁ S₁ R₂ S₂ ts us h k

@@ -3,7 +3,8 @@ use Rattle.std.specs.Prelude.{ℕ, zero, suc, ◌+◌, ◌*◌, ◌^◌, Bool, L
 use Rattle.mesh_plane.specs.Triangles.{Triple, fan}
 use Rattle.mesh_plane.specs.Fan.{Ring, round}
 
--- the grid line at which the node x of level k begins: nodes of level k are 2^k lines wide, and the first one begins
+-- the grid line at which the node x of level k begins: nodes of level k are 2^k lines wide, and the first
+-- one begins
 -- at line 1
 abbrev pub line_of : ℕ → ℕ → ℕ
 line_of k x = 1 + x * 2 ^ k
@@ -49,7 +50,8 @@ module _ {A : Type 0} (grid : ℕ → ℕ → A) where
       halves (grid (line_of zero x) (line_of zero y)) (grid (line_of zero (x + 1)) (line_of zero y))
       (grid (line_of zero (x + 1)) (line_of zero (y + 1))) (grid (line_of zero x) (line_of zero (y + 1)))
 
-  -- those of all leaves of the node (x, y) of level k, where p says which nodes are split and m which sides of a leaf
+  -- those of all leaves of the node (x, y) of level k, where p says which nodes are split and m which sides
+  -- of a leaf
   -- have midpoints: south-west, south-east, north-west and north-east quarters in this order
   abbrev pub leaves : (ℕ → ℕ → ℕ → Bool) → (ℕ → ℕ → ℕ → Midpoints) → ℕ → ℕ → ℕ → List (Triple A)
   leaves p m zero x y = smallest x y

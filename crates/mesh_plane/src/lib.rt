@@ -1,4 +1,5 @@
-//! Sides, planes and heights of triangles in exact whole numbers, and the laws by which triangles cover a region once.
+//! Sides, planes and heights of triangles in exact whole numbers, and the laws by which triangles cover a
+//! region once.
 #![tactic(auto)]
 
 mod corner;

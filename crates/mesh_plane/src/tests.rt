@@ -21,8 +21,8 @@ fn answers(tri: &Tri, scale: i64, u: i64, v: i64, metres: i32) -> (bool, i128, i
     )
 }
 
-// The corners (0, 0), (12, 0) and (3, 9) are 100, -40 and 700 m high. The heights of the plane at the points were worked
-// out as exact fractions, apart from the program.
+// The corners (0, 0), (12, 0) and (3, 9) are 100, -40 and 700 m high. The heights of the plane at the points
+// were worked out as exact fractions, apart from the program.
 #[test]
 fn points_on_corners_sides_and_insides(rt: HostRuntime) {
     let a = Corner { u: 0, v: 0, h: 100 };

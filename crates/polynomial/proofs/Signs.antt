@@ -10,7 +10,8 @@ pub times_nonneg : (a b : ℤ) → pos 0 ≤ℤ a → pos 0 ≤ℤ b → pos 0 �
 times_nonneg a b h k = grind (arith, ints)
 
 pub times_pos : (a b : ℤ) → pos 0 <ℤ a → pos 0 <ℤ b → pos 0 <ℤ (a *ℤ b)
-times_pos (pos a) (pos b) h k = let l : 1 ≤ a * b = omega (arith, ints, mul-le 1 1 a b (omega (arith, ints)) (omega (arith, ints))) in omega (arith, ints)
+times_pos (pos a) (pos b) h k = let l : 1 ≤ a * b =
+    omega (arith, ints, mul-le 1 1 a b (omega (arith, ints)) (omega (arith, ints))) in omega (arith, ints)
 times_pos (pos a) (negsuc b) h k = absurd (omega (arith, ints))
 times_pos (negsuc a) b h k = absurd (omega (arith, ints))
 

@@ -13,9 +13,12 @@ overflow_sub-result c = omega (arith, ints, c.product-across.ensures, c.product-
 pub returns-clause-value : goal.returns-clause-value
 returns-clause-value c =
     let t = c.args.tri.now in
-    let f1 : FitsSigned w64 t.a.u = omega (arith, ints, c.requires.a) in let f2 : FitsSigned w64 t.a.v = omega (arith, ints, c.requires.a) in
-    let f3 : FitsSigned w64 t.b.u = omega (arith, ints, c.requires.b) in let f4 : FitsSigned w64 t.b.v = omega (arith, ints, c.requires.b) in
-    let f5 : FitsSigned w64 t.c.u = omega (arith, ints, c.requires.c) in let f6 : FitsSigned w64 t.c.v = omega (arith, ints, c.requires.c) in
+    let f1 : FitsSigned w64 t.a.u = omega (arith, ints, c.requires.a) in
+    let f2 : FitsSigned w64 t.a.v = omega (arith, ints, c.requires.a) in
+    let f3 : FitsSigned w64 t.b.u = omega (arith, ints, c.requires.b) in
+    let f4 : FitsSigned w64 t.b.v = omega (arith, ints, c.requires.b) in
+    let f5 : FitsSigned w64 t.c.u = omega (arith, ints, c.requires.c) in
+    let f6 : FitsSigned w64 t.c.v = omega (arith, ints, c.requires.c) in
     let g1 : FitsSigned w64 (t.b.u -ℤ t.a.u) = omega (arith, ints, c.requires.a, c.requires.b) in
     let g2 : FitsSigned w64 (t.b.v -ℤ t.a.v) = omega (arith, ints, c.requires.a, c.requires.b) in
     let g3 : FitsSigned w64 (t.c.u -ℤ t.a.u) = omega (arith, ints, c.requires.a, c.requires.c) in

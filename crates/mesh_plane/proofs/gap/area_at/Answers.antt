@@ -28,7 +28,8 @@ returns-clause-size c =
     let g1 : FitsSigned w128 c.from.result = omega (arith, ints, e1, c.requires.scale) in
     let g2 : FitsSigned w128 c.from-2.result = omega (arith, ints, e2, c.doubled.ensures.size) in
     let s1 : unsigned_abs c.from.result ≤ 2147483648 = omega (arith, ints, e1, c.requires.scale) in
-    let s2 : unsigned_abs c.from-2.result ≤ 4611686018427387904 = omega (arith, ints, e2, c.doubled.ensures.size) in
+    let s2 : unsigned_abs c.from-2.result ≤ 4611686018427387904 =
+    omega (arith, ints, e2, c.doubled.ensures.size) in
     let k : FitsSigned w128 (c.from.result *ℤ c.from-2.result) =
     fits_signed_mul w128 c.from.result c.from-2.result 2147483648 4611686018427387904 s1 s2 (lit< tt) in
     simp to_z-of_z (size_product c.from.result c.from-2.result 2147483648 4611686018427387904 s1 s2)

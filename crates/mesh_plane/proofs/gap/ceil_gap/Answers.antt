@@ -12,5 +12,6 @@ returns c =
     let f1 : FitsSigned w128 over = omega (arith, ints, c.fits-gap) in
     let f2 : FitsSigned w128 under = omega (arith, ints, c.fits-gap) in
     let f3 : FitsSigned w128 (over -ℤ pos 1) = omega (arith, ints, c.fits-gap, c.if-gap-le0.false) in
-    let f4 : FitsSigned w128 (int_div (over -ℤ pos 1) under) = quot_fits w128 (over -ℤ pos 1) under f3 c.requires.above_zero in
+    let f4 : FitsSigned w128 (int_div (over -ℤ pos 1) under) =
+    quot_fits w128 (over -ℤ pos 1) under f3 c.requires.above_zero in
     simp to_z-of_z (ceiling_above over under c.requires.above_zero (omega (arith, ints, c.if-gap-le0.false)))

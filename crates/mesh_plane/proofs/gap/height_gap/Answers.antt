@@ -17,7 +17,8 @@ pub abs-requires : goal.abs-requires
 abs-requires c =
     let f1 : FitsSigned w128 c.lift.result = omega (arith, ints, c.lift.ensures.size) in
     let f2 : FitsSigned w128 c.weighted.result = omega (arith, ints, c.weighted.ensures.size) in
-    let f3 : FitsSigned w128 (c.lift.result -ℤ c.weighted.result) = omega (arith, ints, c.lift.ensures.size, c.weighted.ensures.size) in
+    let f3 : FitsSigned w128 (c.lift.result -ℤ c.weighted.result) =
+    omega (arith, ints, c.lift.ensures.size, c.weighted.ensures.size) in
     simp to_z-of_z (omega (arith, ints, c.lift.ensures.size, c.weighted.ensures.size))
 
 pub returns-clause-over : goal.returns-clause-over
@@ -26,12 +27,14 @@ returns-clause-over c =
     let f0 : FitsSigned w128 c.area_at-under.result = omega (arith, ints, c.area_at-under.ensures.size) in
     let f1 : FitsSigned w128 c.lift.result = omega (arith, ints, c.lift.ensures.size) in
     let f2 : FitsSigned w128 c.weighted.result = omega (arith, ints, c.weighted.ensures.size) in
-    let f3 : FitsSigned w128 (c.lift.result -ℤ c.weighted.result) = omega (arith, ints, c.lift.ensures.size, c.weighted.ensures.size) in
+    let f3 : FitsSigned w128 (c.lift.result -ℤ c.weighted.result) =
+    omega (arith, ints, c.lift.ensures.size, c.weighted.ensures.size) in
     let e0 = simp to_z-of_z at c.area_at-under.ensures.value in
     let e1 = simp to_z-of_z at c.lift.ensures.value in
     let e2 = simp to_z-of_z at c.weighted.ensures.value in
     let e3 = simp to_z-of_z at c.abs.ensures.value in
-    let f4 : FitsSigned w128 c.abs.result = omega (arith, ints, e3, c.lift.ensures.size, c.weighted.ensures.size) in
+    let f4 : FitsSigned w128 c.abs.result =
+    omega (arith, ints, e3, c.lift.ensures.size, c.weighted.ensures.size) in
     simp to_z-of_z (cc (e0, e1, e2, e3))
 
 pub returns-clause-under : goal.returns-clause-under
@@ -46,4 +49,11 @@ returns-clause-above_zero c =
     let r = c.ranges.scale in
     let f : FitsSigned w128 c.area_at-under.result = omega (arith, ints, c.area_at-under.ensures.size) in
     let e = simp to_z-of_z at c.area_at-under.ensures.value in
-    simp to_z-of_z (omega (arith, ints, e, times_pos c.args.scale (doubled_area c.args.tri.now) (omega (arith, ints, c.requires.scale)) c.requires.counter_clockwise))
+    simp to_z-of_z
+    (omega (
+      arith,
+      ints,
+      e,
+      times_pos c.args.scale (doubled_area c.args.tri.now)
+          (omega (arith, ints, c.requires.scale)) c.requires.counter_clockwise,
+    ))
