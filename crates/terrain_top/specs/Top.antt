@@ -1,5 +1,5 @@
 -- The reply to the words of the command line.
-use Rattle.std.specs.Prelude.{◌≡◌, ℕ, List, [], ◌∷◌, ◌++◌, codes, Option, Some, None}
+use Rattle.std.specs.Prelude.{ℕ, List, codes, Option, Some, None}
 use Rattle.std.specs.FinMap.{get}
 use Rattle.terrain_base.specs.Library.{LibraryFiles}
 use Rattle.terrain_top.specs.declared.status.Status.TheVariants.{Usage}
