@@ -12,6 +12,7 @@ ghost use Rattle.mesh_codec.specs.Text.{
 use std::alloc::Global;
 use terrain_base::{Indexes, NoMemory};
 
+use crate::layout::padding;
 use crate::number::{put_double, put_long, put_short};
 use crate::{Array, CodeMesh, Codes, Edge, Header};
 
@@ -73,17 +74,6 @@ fn put_array(out: &mut Vec<u8>, vertices: &[Codes], array: Array) -> Result<(), 
     Ok(())
 }
 
-/// Adds the padding before the index data.
-#[tactic(auto, using(crate::proofs::Texts::padding_two, crate::proofs::Texts::padding_none))]
-fn put_padding(out: &mut Vec<u8>, vertices: u32) -> Result<(), NoMemory>
-    ensures { OnOk result (out.new.items ≡ out.old.items ++ padding_text vertices) }
-{
-    if vertices > 65536 && vertices % 2 == 1 {
-        out.extend_from_slice(&[0, 0])?;
-    }
-    Ok(())
-}
-
 /// Adds a code of the index width.
 #[tactic(auto, unfolding(crate::specs::Text::index_width))]
 fn put_code(out: &mut Vec<u8>, vertices: u32, code: u32) -> Result<(), NoMemory>
@@ -109,7 +99,7 @@ fn put_index(out: &mut Vec<u8>, vertices: u32, mark: u32, index: u32) -> Result<
 }
 
 /// Adds the indexes of triangles.
-#[tactic(auto, using(crate::proofs::Texts::triangle_next, crate::proofs::Texts::triangle_at, crate::proofs::Texts::corners_next))]
+#[tactic(auto, using(crate::proofs::Texts::corners_next))]
 fn put_triangles(out: &mut Vec<u8>, triangles: &[Indexes], vertices: u32) -> Result<(), NoMemory>
     requires vertices { All (IsTriangle vertices) triangles.now }
     requires in_order { AreWithinMark 0 (corners triangles.now) }
@@ -148,7 +138,8 @@ fn put_vertices(out: &mut Vec<u8>, mesh: &CodeMesh) -> Result<(), NoMemory>
     put_array(out, vertices, Array::U)?;
     put_array(out, vertices, Array::V)?;
     put_array(out, vertices, Array::Height)?;
-    put_padding(out, mesh.vertices())
+    out.extend_from_slice(padding(mesh.vertices()))?;
+    Ok(())
 }
 
 /// Adds the triangles and the edge lists of a mesh.
@@ -169,7 +160,7 @@ fn put_indexes(out: &mut Vec<u8>, mesh: &CodeMesh) -> Result<(), NoMemory>
 
 /// The bytes of a tile with this header and this mesh, with padding of zeros and without an extension. The
 /// vertices are numbered by first use in the triangles, each is used, and there are not exactly 65536.
-#[tactic(auto, unfolding(crate::specs::Text::tile_text), using(crate::proofs::Marks::within_mark))]
+#[tactic(auto, unfolding(crate::specs::Text::tile_text))]
 pub fn encode(alloc: Global, header: &Header, mesh: &CodeMesh) -> Result<Vec<u8>, NoMemory>
     requires { IsEncodable mesh.now }
     ensures { IfOk result (λ bytes. bytes.items ≡ tile_text header.now mesh.now) }
