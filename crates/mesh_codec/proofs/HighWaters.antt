@@ -1,5 +1,6 @@
 -- The high water mark, step by step.
-use Rattle.std.proofs.Common.{◌≡◌, ℕ, zero, suc, ◌+◌, ◌*◌, ◌<◌, ◌≤◌, ◌==◌, ◌-◌, Bool, true, false, cond, Option, Some, None, List, [], ◌∷◌, ◌++◌, map, length, count_by, refl, sym, ap, ◌∙◌, arith}
+use Rattle.std.proofs.Common.{◌≡◌, ◌≢◌, ℕ, zero, suc, ◌+◌, ◌*◌, ◌<◌, ◌≤◌, ◌==◌, ◌-◌, Bool, true, false, cond, Option, Some, None, List, [], ◌∷◌, ◌++◌, map, length, count_by, refl, sym, ap, ◌∙◌, arith}
+use Rattle.std.proofs.lemmas.Bool.Decides.{nat_tests}
 use Rattle.std.proofs.Math.Nat.{mul-le-mul_left}
 use Rattle.std.specs.List.{range_with_len}
 use Rattle.std.proofs.lemmas.List.Sums.{sum_by_push}
@@ -64,3 +65,9 @@ module _ (bytes : List ℕ) (vertices at k count mark code : ℕ) (h : k < count
 
   pub mark_is : (next : ℕ) → Some next ≡ cond (is_no_vertex vertices mark code) None (Some (cond (code == 0) (mark + 1) mark)) → mark_at (index_width vertices) bytes at (k + 1) ≡ next
   mark_is next e = mark_next (index_width vertices) bytes at k ∙ rw (is, ← read) (sym (chosen_some (is_no_vertex vertices mark code) next (cond (code == 0) (mark + 1) mark) e).1)
+
+pub then_is : (code m n : ℕ) → code ≡ 0 → m ≡ cond (code == 0) m n
+then_is code m n e = grind (arith, nat_tests)
+
+pub else_is : (code m n : ℕ) → code ≢ 0 → n ≡ cond (code == 0) m n
+else_is code m n e = grind (arith, nat_tests)

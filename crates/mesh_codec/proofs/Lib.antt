@@ -1,6 +1,9 @@
-pub mod Extensions
+pub mod ExtensionSteps
 pub mod First
 pub mod HighWaters
+pub mod Lists
 pub mod Marks
+pub mod Places
 pub mod Runs
+pub mod Sounds
 pub mod Texts

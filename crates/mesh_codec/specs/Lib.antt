@@ -8,3 +8,4 @@ pub mod Layout
 pub mod Refusal
 pub mod Tile
 pub mod Good
+pub mod Seen

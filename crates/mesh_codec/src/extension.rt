@@ -24,7 +24,7 @@ pub(crate) fn end_of(bytes: &[u8], at: usize) -> Option<usize>
 }
 
 /// Refuses the first extension that does not fit.
-#[tactic(auto, using(crate::proofs::Extensions::conditions_next, crate::proofs::Extensions::conditions_found, crate::proofs::Extensions::conditions_none))]
+#[tactic(auto, using(crate::proofs::ExtensionSteps::conditions_next, crate::proofs::ExtensionSteps::conditions_found, crate::proofs::ExtensionSteps::conditions_none))]
 pub(crate) fn read_extensions(bytes: &[u8], start: usize) -> Result<(), TileRefusal>
     requires { start ≤ length bytes.now }
     ensures { result_err result ≡ first_of (extension_conditions bytes.now start) }
