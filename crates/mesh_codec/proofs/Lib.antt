@@ -1,9 +1,17 @@
+pub mod Decoding
+pub mod Edges
+pub mod ExtensionLaws
 pub mod ExtensionSteps
 pub mod First
+pub mod FirstLaws
 pub mod HighWaters
 pub mod Lists
 pub mod Marks
+pub mod Numbers
 pub mod Places
+pub mod Rebuilding
 pub mod Runs
 pub mod Sounds
+pub mod TextLaws
 pub mod Texts
+pub mod Uniqueness

@@ -27,12 +27,16 @@ edge_of mesh South = mesh.south
 edge_of mesh East = mesh.east
 edge_of mesh North = mesh.north
 
+-- the mesh with another list along an edge
+abbrev pub with_list : Mesh → Edge → List ℕ → Mesh
+with_list mesh West list = record mesh { west = list }
+with_list mesh South list = record mesh { south = list }
+with_list mesh East list = record mesh { east = list }
+with_list mesh North list = record mesh { north = list }
+
 -- the mesh with one vertex more along an edge
 abbrev pub with_edge : Mesh → Edge → ℕ → Mesh
-with_edge mesh West vertex = record mesh { west = mesh.west ++ vertex ∷ [] }
-with_edge mesh South vertex = record mesh { south = mesh.south ++ vertex ∷ [] }
-with_edge mesh East vertex = record mesh { east = mesh.east ++ vertex ∷ [] }
-with_edge mesh North vertex = record mesh { north = mesh.north ++ vertex ∷ [] }
+with_edge mesh edge vertex = with_list mesh edge (edge_of mesh edge ++ vertex ∷ [])
 
 -- codes from 0 to 32767
 pub record IsVertex (codes : Codes) : Type 0 where

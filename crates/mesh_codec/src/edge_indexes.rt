@@ -1,5 +1,5 @@
 // The vertices along an edge of a tile, read where they stand.
-ghost use Rattle.std.specs.Prelude.{◌≡◌, ◌<◌, All};
+ghost use Rattle.std.specs.Prelude.{◌≡◌, ◌^◌, ◌<◌, All, length};
 ghost use Rattle.mesh_codec.specs.Layout.{vertices_in};
 ghost use Rattle.std.specs.Iterator.{YieldsFirst, item_count};
 ghost use Rattle.mesh_codec.specs.Good.{IsTile};
@@ -43,6 +43,7 @@ impl<'a> EdgeIndexes<'a> {
         requires { IsTile bytes.now }
         ensures list { result ≡ edge_list bytes.now edge }
         ensures in_range { All (λ vertex. vertex < vertices_in bytes.now) result }
+        ensures few { length result < 2 ^ 32 }
     {
         let start = edge_start(bytes, edge);
         EdgeIndexes {

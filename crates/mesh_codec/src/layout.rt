@@ -59,7 +59,8 @@ pub(crate) fn array_start(vertices: u32, array: Array) -> usize
 #[tactic(auto, unfolding(crate::specs::Layout::vertices_in), using(crate::proofs::Places::counted))]
 pub(crate) fn vertex_number(bytes: &[u8]) -> u32
     requires { IsTile bytes.now }
-    ensures { result ≡ vertices_in bytes.now }
+    ensures number { result ≡ vertices_in bytes.now }
+    ensures few { result < 2 ^ 32 }
 {
     long(bytes, 88)
 }
@@ -68,7 +69,8 @@ pub(crate) fn vertex_number(bytes: &[u8]) -> u32
 #[tactic(auto, unfolding(crate::specs::Layout::triangles_in), using(crate::proofs::Places::triangles_counted))]
 pub(crate) fn triangle_number(bytes: &[u8]) -> u32
     requires { IsTile bytes.now }
-    ensures { result ≡ triangles_in bytes.now }
+    ensures number { result ≡ triangles_in bytes.now }
+    ensures few { result < 2 ^ 32 }
 {
     long(bytes, index_data(vertex_number(bytes)))
 }

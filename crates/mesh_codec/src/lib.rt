@@ -2,6 +2,7 @@
 #![tactic(auto)]
 
 mod array;
+mod building;
 mod codes;
 mod edge;
 mod edge_indexes;
@@ -10,6 +11,7 @@ mod extension;
 mod extensions;
 mod header;
 mod index;
+pub mod laws;
 mod layout;
 mod mesh;
 mod number;

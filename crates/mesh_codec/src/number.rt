@@ -19,7 +19,8 @@ pub(crate) fn short(bytes: &[u8], at: usize) -> u16
 #[tactic(auto, unfolding(crate::specs::Number::number_at))]
 pub(crate) fn long(bytes: &[u8], at: usize) -> u32
     requires { at + 4 ≤ length bytes.now }
-    ensures { result ≡ number_at 4 bytes.now at }
+    ensures number { result ≡ number_at 4 bytes.now at }
+    ensures few { result < 2 ^ 32 }
 {
     LittleEndian::read_u32(&bytes[at..])
 }

@@ -1,5 +1,5 @@
 // The triangles of a tile, decoded where they stand.
-ghost use Rattle.std.specs.Prelude.{◌≡◌, ◌+◌, ◌*◌, ◌<◌, All};
+ghost use Rattle.std.specs.Prelude.{◌≡◌, ◌+◌, ◌*◌, ◌^◌, ◌<◌, All, length};
 ghost use Rattle.mesh_codec.specs.Mesh.{IsTriangle};
 ghost use Rattle.std.specs.Iterator.{YieldsFirst, item_count};
 ghost use Rattle.mesh_codec.specs.Text.{index_width, index_data_at};
@@ -64,6 +64,7 @@ impl<'a> Triangles<'a> {
         requires { IsTile bytes.now }
         ensures triangles { result ≡ triangle_list bytes.now }
         ensures in_range { All (IsTriangle (vertices_in bytes.now)) result }
+        ensures few { length result < 2 ^ 32 }
     {
         Triangles {
             bytes,

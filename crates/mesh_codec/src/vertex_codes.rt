@@ -1,5 +1,5 @@
 // The vertices of a tile, decoded where they stand.
-ghost use Rattle.std.specs.Prelude.{◌≡◌, ◌+◌, ◌<◌, All};
+ghost use Rattle.std.specs.Prelude.{◌≡◌, ◌+◌, ◌^◌, ◌<◌, All, length};
 ghost use Rattle.mesh_codec.specs.Mesh.{IsVertex};
 ghost use Rattle.std.specs.Iterator.{YieldsFirst, item_count};
 ghost use Rattle.mesh_codec.specs.Difference.{code_at};
@@ -55,6 +55,7 @@ impl<'a> VertexCodes<'a> {
         requires { IsTile bytes.now }
         ensures vertices { result ≡ vertex_list bytes.now }
         ensures in_range { All IsVertex result }
+        ensures few { length result < 2 ^ 32 }
     {
         VertexCodes {
             bytes,
