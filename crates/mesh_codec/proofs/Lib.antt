@@ -12,6 +12,7 @@ pub mod Places
 pub mod Rebuilding
 pub mod Runs
 pub mod Sounds
+pub mod TextDecodes
 pub mod TextLaws
 pub mod Texts
 pub mod Uniqueness

@@ -1,5 +1,5 @@
 -- The spelling of a header and a mesh decodes to them.
-use Rattle.std.proofs.Common.{◌≡◌, ◌≢◌, ℕ, zero, suc, ℤ, pos, negsuc, ◌+ℤ◌, ◌+◌, ◌-◌, ◌*◌, ◌/◌, ◌%◌, ◌^◌, ◌<◌, ◌≤◌, ◌⊎◌, ◌==◌, Bool, true, false, cond, nat_le, nat_lt, List, [], ◌∷◌, ◌++◌, length, map, drop, get_or, slice_index, replicate, All, inl, inr, refl, sym, ap, ◌∙◌, subst, arith, ints, append_assoc, add-one}
+use Rattle.std.proofs.Common.{◌≡◌, ◌≢◌, ℕ, zero, suc, ℤ, pos, negsuc, ◌+ℤ◌, ◌+◌, ◌-◌, ◌*◌, ◌/◌, ◌%◌, ◌^◌, ◌<◌, ◌≤◌, ◌⊎◌, ◌==◌, Bool, true, false, cond, nat_le, nat_lt, List, [], ◌∷◌, ◌++◌, length, map, drop, get_or, slice_index, replicate, All, inl, inr, refl, sym, ap, ◌∙◌, subst, arith, append_assoc, add-one}
 use Rattle.std.specs.List.{flat_map, range_with_len}
 use Rattle.std.proofs.lemmas.List.{drop-drop, drop_at, length-append, length-map, length-replicate, append-nil, get_or-map}
 use Rattle.std.proofs.lemmas.List.Elements.{All-nil, All-head, All-tail}
@@ -19,6 +19,15 @@ pub behind : (text : List ℕ) (at size : ℕ) (part rest : List ℕ) → drop a
 behind text at size part rest e l = sym (drop-drop size at text) ∙ ap (drop size) e ∙ drop_at part rest size l
 
 -- ---- arrays
+down_is : (before code : ℕ) → code < before → pos code ≡ pos before +ℤ negsuc (before - code - 1)
+down_is before code h =
+    let test : nat_lt before (suc (before - code - 1)) ≡ false = grind (arith, nat_tests) in
+    let back : before - suc (before - code - 1) ≡ code = omega arith in
+    rw (test, back) refl
+
+up_is : (before code : ℕ) → before ≤ code → pos code ≡ pos before +ℤ pos (code - before)
+up_is before code h = let back : before + (code - before) ≡ code = omega arith in rw back refl
+
 -- the difference of a word is that of the codes
 zigzag_is : (before code : ℕ) → pos code ≡ pos before +ℤ difference (zigzag before code)
 zigzag_is before code = elim (cases_lt code before) [
@@ -26,12 +35,12 @@ zigzag_is before code = elim (cases_lt code before) [
     let down : nat_le before code ≡ false = grind (arith, nat_tests) in
     let odd : (2 * (before - code) - 1) % 2 ≡ 1 = omega arith in
     let half : (2 * (before - code) - 1) / 2 ≡ before - code - 1 = omega arith in
-    rw (down, odd, half) (omega (arith, ints))
+    rw (down, odd, half) (down_is before code less)
   | inr more ↦
     let up : nat_le before code ≡ true = grind (arith, nat_tests) in
     let even : 2 * (code - before) % 2 ≡ 0 = omega arith in
     let half : 2 * (code - before) / 2 ≡ code - before = omega arith in
-    rw (up, even, half) (omega (arith, ints))
+    rw (up, even, half) (up_is before code more)
 ]
 
 zigzag_small : (before code : ℕ) → before ≤ 32767 → code ≤ 32767 → zigzag before code < 65536

@@ -48,11 +48,11 @@ unfolding code_at
 code_is bytes at k n e h = ap (λ z. unwrap_or (to_code z) 0) e ∙ ap (λ o. unwrap_or o 0) (small_code n h)
 
 -- ---- corners
-corners_length : (triangles : List Indexes) → length (corners triangles) ≡ 3 * length triangles
+pub corners_length : (triangles : List Indexes) → length (corners triangles) ≡ 3 * length triangles
 corners_length [] = refl
 corners_length (t ∷ ts) = omega (arith, corners_length ts)
 
-corners_small : (n : ℕ) (triangles : List Indexes) → ((k : ℕ) (d : Indexes) → k < length triangles → IsTriangle n (get_or triangles k d)) → (k : ℕ) → k < length (corners triangles) → get_or (corners triangles) k 0 < n
+pub corners_small : (n : ℕ) (triangles : List Indexes) → ((k : ℕ) (d : Indexes) → k < length triangles → IsTriangle n (get_or triangles k d)) → (k : ℕ) → k < length (corners triangles) → get_or (corners triangles) k 0 < n
 corners_small n [] all k h = absurd (omega arith)
 corners_small n (t ∷ ts) all zero h = (all 0 t (omega arith)).a
 corners_small n (t ∷ ts) all (suc zero) h = (all 0 t (omega arith)).b

@@ -1,11 +1,24 @@
 -- The one spelling of a header and a mesh (quantized-mesh-1.0).
-use Rattle.std.specs.Prelude.{ℕ, ◌+◌, ◌-◌, ◌*◌, ◌/◌, ◌≤◌, ◌==◌, nat_lt, nat_le, List, [], ◌∷◌, ◌++◌, length, map, flat_map, replicate, if◌then◌else◌}
+use Rattle.std.specs.Prelude.{ℕ, ◌+◌, ◌-◌, ◌*◌, ◌/◌, ◌^◌, ◌≡◌, ◌<◌, ◌≤◌, All, ◌==◌, nat_lt, nat_le, List, [], ◌∷◌, ◌++◌, length, map, flat_map, replicate, if◌then◌else◌}
 use Rattle.byteorder.specs.Endian.{little_bytes}
 use Rattle.mesh_codec.specs.declared.header.Header.{Header}
 use Rattle.mesh_codec.specs.declared.refusal.Array.TheVariants.{U, V, Height}
 use Rattle.mesh_codec.specs.Mesh.{Mesh, corners, coordinate}
 
 -- three coordinates of eight bytes each
+abbrev pub IsPoint : List ℕ → Type 0
+IsPoint point = (length point ≡ 3) × All (λ coordinate. coordinate < 2 ^ 64) point
+
+-- bit patterns of the widths of a header's fields
+pub record IsHeader (header : Header) : Type 0 where
+  pub centre : IsPoint header.centre
+  pub least : header.least < 2 ^ 32
+  pub greatest : header.greatest < 2 ^ 32
+  pub sphere_centre : IsPoint header.sphere_centre
+  pub radius : header.radius < 2 ^ 64
+  pub horizon : IsPoint header.horizon
+
+-- a point's spelling
 abbrev pub point_text : List ℕ → List ℕ
 point_text point = flat_map (little_bytes 8) point
 
