@@ -2,7 +2,9 @@
 #![tactic(auto)]
 
 mod answer;
+mod audit;
 mod cell;
+mod file;
 mod status;
 mod stop;
 #[cfg(test)]
