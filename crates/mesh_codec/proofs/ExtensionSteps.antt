@@ -95,3 +95,15 @@ no_extensions (suc n) bytes at h = rw (not_below at (length bytes) h) refl
 pub extensions_none : (bytes : List ℕ) (at : ℕ) → length bytes ≤ at → extensions_from bytes at ≡ []
 unfolding extensions_from
 extensions_none bytes at h = no_extensions (length bytes) bytes at h
+
+few_extensions : (n : ℕ) (bytes : List ℕ) (at : ℕ) → length (some_extensions n bytes at) ≤ n
+few_extensions zero bytes at = omega arith
+few_extensions (suc n) bytes at = of_test (nat_lt at (length bytes)) (extension_at bytes at) (some_extensions n bytes (extension_end bytes at)) n (few_extensions n bytes (extension_end bytes at))
+  where
+    of_test : (b : Bool) (x : ExtensionData) (xs : List ExtensionData) (n : ℕ) → length xs ≤ n → length (cond b (x ∷ xs) []) ≤ suc n
+    of_test true x xs n h = omega arith
+    of_test false x xs n h = omega arith
+
+pub extensions_few : (bytes : List ℕ) (at : ℕ) → length (extensions_from bytes at) ≤ length bytes
+unfolding extensions_from
+extensions_few bytes at = few_extensions (length bytes) bytes at

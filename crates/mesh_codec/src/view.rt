@@ -106,7 +106,8 @@ impl<'a> TileView<'a> {
 
     /// The extensions.
     pub fn extensions(&self) -> Extensions<'a>
-        ensures { result ≡ extension_list self.now }
+        ensures extensions { result ≡ extension_list self.now }
+        ensures few { length result < 2 ^ 64 }
     {
         Extensions::of(self.bytes)
     }
