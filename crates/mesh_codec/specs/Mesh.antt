@@ -1,6 +1,6 @@
 -- A mesh of codes: the vertices, triangles and edge lists of a tile (quantized-mesh-1.0, vertex data, index
 -- data and edge indices).
-use Rattle.std.specs.Prelude.{◌≡◌, ◌≢◌, ℕ, ◌+◌, ◌^◌, ◌<◌, ◌≤◌, List, [], ◌∷◌, ◌++◌, length, take, map, flat_map, slice_index, All, Contains}
+use Rattle.std.specs.Prelude.{◌≢◌, ℕ, ◌+◌, ◌^◌, ◌<◌, ◌≤◌, List, [], ◌∷◌, ◌++◌, length, take, flat_map, slice_index, All, Contains}
 use Rattle.terrain_base.specs.declared.indexes.Indexes.{Indexes}
 use Rattle.mesh_codec.specs.declared.codes.Codes.{Codes}
 use Rattle.mesh_codec.specs.declared.refusal.Array.{Array}

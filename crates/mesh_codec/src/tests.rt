@@ -25,13 +25,13 @@ struct Plan {
 const FLAT: Plan = Plan {
     vertices: 9,
     arrays: &[
-        0, 64540, 63547, 64542, 993, 994, 65533, 992, 31774, 0, 992, 0, 991, 64540, 994, 0, 993, 31773, 0,
-        0, 0, 0, 0, 0, 0, 0, 0,
+        0, 64540, 63547, 64542, 993, 994, 65533, 992, 31774, 0, 992, 0, 991, 64540, 994, 0, 993,
+        31773, 0, 0, 0, 0, 0, 0, 0, 0, 0,
     ],
     triangles: 12,
     codes: &[
-        0, 0, 0, 3, 0, 3, 1, 0, 4, 2, 0, 2, 0, 0, 4, 2, 4, 3, 8, 6, 1, 8, 1, 2, 0, 7, 8, 1, 8, 5, 1, 5, 2, 1,
-        2, 7,
+        0, 0, 0, 3, 0, 3, 1, 0, 4, 2, 0, 2, 0, 0, 4, 2, 4, 3, 8, 6, 1, 8, 1, 2, 0, 7, 8, 1, 8, 5,
+        1, 5, 2, 1, 2, 7,
     ],
     west: &[0, 6],
     south: &[0, 3],
@@ -128,7 +128,11 @@ fn refusal(bytes: &[u8]) -> Option<TileRefusal> {
 
 /// The first bytes of a tile.
 fn front(bytes: &[u8], length: usize) -> &[u8] {
-    if length <= bytes.len() { &bytes[..length] } else { bytes }
+    if length <= bytes.len() {
+        &bytes[..length]
+    } else {
+        bytes
+    }
 }
 
 /// Writes a byte over that at an offset.
@@ -158,7 +162,13 @@ fn mark_over(mark: u32, index: u32) -> Option<u32>
     ensures within { IfSome result (λ next. index ≤ mark) }
     ensures mark { IfSome result (λ next. next ≡ mark_after mark index) }
 {
-    if index == mark { mark.checked_add(1) } else if index < mark { Some(mark) } else { None }
+    if index == mark {
+        mark.checked_add(1)
+    } else if index < mark {
+        Some(mark)
+    } else {
+        None
+    }
 }
 
 /// The mark behind a triangle, where its corners are within the marks.
@@ -204,7 +214,12 @@ fn flat_mesh(alloc: Global) -> Result<CodeMesh, NoMemory> {
     for (a, b, c) in TRIANGLES {
         add_triangle(&mut mesh, a, b, c)?;
     }
-    for (edge, first, last) in [(Edge::West, 0, 6), (Edge::South, 0, 3), (Edge::East, 3, 5), (Edge::North, 6, 5)] {
+    for (edge, first, last) in [
+        (Edge::West, 0, 6),
+        (Edge::South, 0, 3),
+        (Edge::East, 3, 5),
+        (Edge::North, 6, 5),
+    ] {
         add_edge(&mut mesh, edge, first)?;
         add_edge(&mut mesh, edge, last)?;
     }
@@ -219,15 +234,37 @@ fn the_flat_tile_has_its_codes(rt: HostRuntime) {
     assert!(rt; view.header() == HEADER);
     assert_eq!(rt; view.vertices(), 9);
     assert_eq!(rt; view.triangle_count(), 12);
-    let vertices: Vec<Codes> = view.vertex_codes().collect(rt.alloc()).expect(&rt, "memory");
+    let vertices: Vec<Codes> = view
+        .vertex_codes()
+        .collect(rt.alloc())
+        .expect(&rt, "memory");
     for (codes, (u, v)) in vertices.iter().zip(VERTICES.iter()) {
-        assert!(rt; *codes == Codes { u: *u, v: *v, height: 0 });
+        assert!(rt;
+            *codes
+                == Codes {
+                    u: *u,
+                    v: *v,
+                    height: 0
+                }
+        );
     }
     let triangles: Vec<Indexes> = view.triangles().collect(rt.alloc()).expect(&rt, "memory");
     for (triangle, (a, b, c)) in triangles.iter().zip(TRIANGLES.iter()) {
-        assert!(rt; *triangle == Indexes { a: *a, b: *b, c: *c });
+        assert!(rt;
+            *triangle
+                == Indexes {
+                    a: *a,
+                    b: *b,
+                    c: *c
+                }
+        );
     }
-    for (edge, first, last) in [(Edge::West, 0, 6), (Edge::South, 0, 3), (Edge::East, 3, 5), (Edge::North, 6, 5)] {
+    for (edge, first, last) in [
+        (Edge::West, 0, 6),
+        (Edge::South, 0, 3),
+        (Edge::East, 3, 5),
+        (Edge::North, 6, 5),
+    ] {
         let mut list = view.edge(edge);
         assert_eq!(rt; list.next(), Some(first));
         assert_eq!(rt; list.next(), Some(last));
@@ -262,13 +299,41 @@ fn marks_rise_where_a_vertex_is_new(rt: HostRuntime) {
     assert!(rt; triangles.next() == Some(Indexes { a: 0, b: 1, c: 2 }));
     assert!(rt; triangles.next() == Some(Indexes { a: 0, b: 2, c: 3 }));
     assert!(rt; triangles.next() == None);
-    let ahead = build(rt.alloc(), &Plan { codes: &[0, 0, 0, 4, 1, 0], ..SQUARE }).expect(&rt, "memory");
-    assert_eq!(rt; refusal(&ahead), Some(TileRefusal::IndexOutOfRange { k: 3 }));
-    let few = Plan { vertices: 3, arrays: &[0, 0, 0, 0, 0, 0, 0, 0, 0], ..SQUARE };
+    let ahead = build(
+        rt.alloc(),
+        &Plan {
+            codes: &[0, 0, 0, 4, 1, 0],
+            ..SQUARE
+        },
+    )
+    .expect(&rt, "memory");
+    assert_eq!(rt;
+        refusal(&ahead),
+        Some(TileRefusal::IndexOutOfRange { k: 3 })
+    );
+    let few = Plan {
+        vertices: 3,
+        arrays: &[0, 0, 0, 0, 0, 0, 0, 0, 0],
+        ..SQUARE
+    };
     let beyond = build(rt.alloc(), &few).expect(&rt, "memory");
-    assert_eq!(rt; refusal(&beyond), Some(TileRefusal::IndexOutOfRange { k: 5 }));
-    let wrapped = build(rt.alloc(), &Plan { triangles: 1, codes: &[65535, 0, 0], ..SQUARE }).expect(&rt, "memory");
-    assert_eq!(rt; refusal(&wrapped), Some(TileRefusal::IndexOutOfRange { k: 0 }));
+    assert_eq!(rt;
+        refusal(&beyond),
+        Some(TileRefusal::IndexOutOfRange { k: 5 })
+    );
+    let wrapped = build(
+        rt.alloc(),
+        &Plan {
+            triangles: 1,
+            codes: &[65535, 0, 0],
+            ..SQUARE
+        },
+    )
+    .expect(&rt, "memory");
+    assert_eq!(rt;
+        refusal(&wrapped),
+        Some(TileRefusal::IndexOutOfRange { k: 0 })
+    );
 }
 
 #[test]
@@ -280,14 +345,20 @@ fn indexes_of_many_vertices_are_aligned_to_four_bytes(rt: HostRuntime) {
     assert_eq!(rt; view.vertices(), 65537);
     assert_eq!(rt; view.triangle_count(), 0);
     assert!(rt; view.extensions().next().is_none());
-    let want = TileRefusal::Truncated { at: 393332, need: 4 };
+    let want = TileRefusal::Truncated {
+        at: 393332,
+        need: 4,
+    };
     assert_eq!(rt; refusal(front(&bytes, 393335)), Some(want));
 }
 
 #[test]
 fn each_part_is_refused_at_its_place(rt: HostRuntime) {
     let zeros = [0u8; 87];
-    assert_eq!(rt; refusal(&zeros), Some(TileRefusal::Truncated { at: 0, need: 88 }));
+    assert_eq!(rt;
+        refusal(&zeros),
+        Some(TileRefusal::Truncated { at: 0, need: 88 })
+    );
     assert_eq!(rt; refusal(&[0x1F, 0x8B, 8, 0]), Some(TileRefusal::Compressed));
     let flat = build(rt.alloc(), &FLAT).expect(&rt, "memory");
     let cuts = [
@@ -302,16 +373,61 @@ fn each_part_is_refused_at_its_place(rt: HostRuntime) {
         (253, 250, 4),
     ];
     for (length, at, need) in cuts {
-        assert_eq!(rt; refusal(front(&flat, length)), Some(TileRefusal::Truncated { at, need }));
+        assert_eq!(rt;
+            refusal(front(&flat, length)),
+            Some(TileRefusal::Truncated { at, need })
+        );
     }
     let changes = [
-        (92, 1, TileRefusal::CoordinateOutOfRange { array: Array::U, k: 0 }),
-        (112, 1, TileRefusal::CoordinateOutOfRange { array: Array::V, k: 1 }),
-        (144, 1, TileRefusal::CoordinateOutOfRange { array: Array::Height, k: 8 }),
+        (
+            92,
+            1,
+            TileRefusal::CoordinateOutOfRange {
+                array: Array::U,
+                k: 0,
+            },
+        ),
+        (
+            112,
+            1,
+            TileRefusal::CoordinateOutOfRange {
+                array: Array::V,
+                k: 1,
+            },
+        ),
+        (
+            144,
+            1,
+            TileRefusal::CoordinateOutOfRange {
+                array: Array::Height,
+                k: 8,
+            },
+        ),
         (152, 9, TileRefusal::IndexOutOfRange { k: 1 }),
-        (226, 9, TileRefusal::EdgeIndexTooLarge { edge: Edge::West, k: 0 }),
-        (252, 9, TileRefusal::EdgeIndexTooLarge { edge: Edge::North, k: 1 }),
-        (91, 255, TileRefusal::Truncated { at: 92, need: 8556380178 }),
+        (
+            226,
+            9,
+            TileRefusal::EdgeIndexTooLarge {
+                edge: Edge::West,
+                k: 0,
+            },
+        ),
+        (
+            252,
+            9,
+            TileRefusal::EdgeIndexTooLarge {
+                edge: Edge::North,
+                k: 1,
+            },
+        ),
+        (
+            91,
+            255,
+            TileRefusal::Truncated {
+                at: 92,
+                need: 8556380178,
+            },
+        ),
     ];
     for (at, byte, want) in changes {
         let mut tile = build(rt.alloc(), &FLAT).expect(&rt, "memory");
@@ -323,7 +439,9 @@ fn each_part_is_refused_at_its_place(rt: HostRuntime) {
 #[test]
 fn extensions_go_to_the_end(rt: HostRuntime) {
     let mut bytes = build(rt.alloc(), &FLAT).expect(&rt, "memory");
-    bytes.extend_from_slice(&[1, 2, 0, 0, 0, 7, 8]).expect(&rt, "memory");
+    bytes
+        .extend_from_slice(&[1, 2, 0, 0, 0, 7, 8])
+        .expect(&rt, "memory");
     let view = TileView::read(&bytes).expect(&rt, "a tile");
     let mut extensions = view.extensions();
     let extension = extensions.next().expect(&rt, "an extension");

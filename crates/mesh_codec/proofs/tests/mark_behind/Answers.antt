@@ -1,4 +1,4 @@
-use Rattle.std.proofs.Common.{◌≡◌, ℕ, ◌≤◌, ◌++◌, ◌∷◌, [], List, Option, Some, None, IfSome, sym}
+use Rattle.std.proofs.Common.{◌≡◌, ℕ, ◌≤◌, ◌++◌, ◌∷◌, [], List, Option, Some, None, IfSome}
 use Rattle.mesh_codec.specs.Mesh.{IsNumbered}
 use Rattle.mesh_codec.specs.Text.{mark_after}
 use Rattle.mesh_codec.proofs.Marks.{numbered_next}
@@ -16,4 +16,4 @@ behind_is (Some next) mark a second b third c p e q f r g = λ before n.
 pub returns : goal.returns
 returns c =
     behind_is c.mark_over-3.result c.args.mark c.args.triangle.now.a c.in_ok-second.second c.args.triangle.now.b c.in_ok-third.third c.args.triangle.now.c
-      c.in_ok-second.ensures.within c.in_ok-second.ensures.mark c.in_ok-third.ensures.within c.in_ok-third.ensures.mark c.mark_over-3.ensures.within c.mark_over-3.ensures.mark
+    c.in_ok-second.ensures.within c.in_ok-second.ensures.mark c.in_ok-third.ensures.within c.in_ok-third.ensures.mark c.mark_over-3.ensures.within c.mark_over-3.ensures.mark
