@@ -1,8 +1,7 @@
 -- What gets no refusal decodes to what is read of it.
-use Rattle.std.proofs.Common.{◌≡◌, ℕ, zero, suc, ℤ, pos, negsuc, ◌+ℤ◌, ◌+◌, ◌-◌, ◌*◌, ◌^◌, ◌<◌, ◌≤◌, Bool, true, false, cond, nat_le, List, [], ◌∷◌, ◌++◌, length, map, get_or, slice_index, Option, Some, None, is_some, unwrap_or, All, refl, sym, ap, ◌∙◌, subst, arith, add-one}
-use Rattle.std.specs.List.{range_with_len, flat_map}
+use Rattle.std.proofs.Common.{◌≡◌, ℕ, zero, suc, ℤ, pos, negsuc, ◌+ℤ◌, ◌+◌, ◌-◌, ◌*◌, ◌<◌, Bool, true, false, cond, nat_le, List, [], ◌∷◌, length, map, slice_index, Some, None, is_some, unwrap_or, All, refl, sym, ap, ◌∙◌, subst, arith}
+use Rattle.std.specs.List.{range_with_len}
 use Rattle.std.proofs.lemmas.List.FromFn.{length-map-range_with_len, get_or-map-range_with_len}
-use Rattle.std.proofs.lemmas.List.{length-map}
 use Rattle.std.proofs.lemmas.Bool.Decides.{nat_tests}
 use Rattle.terrain_base.specs.declared.indexes.Indexes.{Indexes}
 use Rattle.mesh_codec.specs.declared.codes.Codes.{Codes}
@@ -11,16 +10,16 @@ use Rattle.mesh_codec.specs.declared.refusal.Array.TheVariants.{U, V, Height}
 use Rattle.mesh_codec.specs.declared.edge.Edge.{Edge}
 use Rattle.mesh_codec.specs.declared.edge.Edge.TheVariants.{West, South, East, North}
 use Rattle.mesh_codec.specs.Number.{number_at, AreBytes}
-use Rattle.mesh_codec.specs.Mesh.{Mesh, IsMesh, IsVertex, IsTriangle, IsEdge, coordinate, corners, corners_of, edge_of}
+use Rattle.mesh_codec.specs.Mesh.{IsMesh, IsVertex, IsTriangle, IsEdge, coordinate, corners, edge_of}
 use Rattle.mesh_codec.specs.Text.{index_width, index_data_at}
 use Rattle.mesh_codec.specs.Difference.{difference_at, sum_before, running_value, to_code, code_at, HasCodes}
 use Rattle.mesh_codec.specs.HighWater.{entry_at, mark_at, index_at, is_no_vertex, HasIndexes, HasEntries}
-use Rattle.mesh_codec.specs.Layout.{vertices_in, triangles_in, array_at, list_end, extensions_at, edge_at}
+use Rattle.mesh_codec.specs.Layout.{vertices_in, triangles_in, array_at, extensions_at, edge_at}
 use Rattle.mesh_codec.specs.Tile.{header_in, vertex_at, vertex_list, triangle_at, triangle_list, edge_list, extension_list, mesh_in, Decodes}
 use Rattle.mesh_codec.specs.Good.{IsTile}
 use Rattle.mesh_codec.proofs.Numbers.{number_small}
 use Rattle.mesh_codec.proofs.Runs.{sum_next, sum_none}
-use Rattle.mesh_codec.proofs.Sounds.{Sound, ArraySound, tile_sound}
+use Rattle.mesh_codec.proofs.Sounds.{ArraySound, tile_sound}
 use Rattle.mesh_codec.proofs.Places.{vertex_list_is, vertices_in_range, triangle_list_is, triangles_in_range, edge_list_is, edge_in_range, extensions_fit}
 use Rattle.mesh_codec.proofs.ExtensionLaws.{extensions_text, are_extensions}
 
@@ -78,8 +77,8 @@ corners_from bytes vertices a (suc n) =
     let second : 3 * a + 1 + 1 ≡ 3 * a + 2 = omega arith in
     let third : 3 * a + 2 + 1 ≡ 3 * (a + 1) = omega arith in
     let later : map f (range_with_len (3 * a) (3 * suc n)) ≡ f (3 * a) ∷ f (3 * a + 1) ∷ f (3 * a + 2) ∷ map f (range_with_len (3 * (a + 1)) (3 * n)) =
-        ap (λ m. map f (range_with_len (3 * a) m)) three ∙ ap (λ m. f (3 * a) ∷ f (3 * a + 1) ∷ f m ∷ map f (range_with_len (m + 1) (3 * n))) second
-        ∙ ap (λ m. f (3 * a) ∷ f (3 * a + 1) ∷ f (3 * a + 2) ∷ map f (range_with_len m (3 * n))) third in
+    ap (λ m. map f (range_with_len (3 * a) m)) three ∙ ap (λ m. f (3 * a) ∷ f (3 * a + 1) ∷ f m ∷ map f (range_with_len (m + 1) (3 * n))) second
+    ∙ ap (λ m. f (3 * a) ∷ f (3 * a + 1) ∷ f (3 * a + 2) ∷ map f (range_with_len m (3 * n))) third in
     ap (λ l. f (3 * a) ∷ f (3 * a + 1) ∷ f (3 * a + 2) ∷ l) (corners_from bytes vertices (a + 1) n) ∙ sym later
 
 pub corners_list : (bytes : List ℕ) → corners (triangle_list bytes) ≡ map (index_at (index_width (vertices_in bytes)) bytes (index_data_at (vertices_in bytes) + 4)) (range_with_len 0 (3 * triangles_in bytes))
@@ -118,11 +117,11 @@ has_entries bytes edge k h =
 
 is_edge : (bytes : List ℕ) (edge : Edge) → AreBytes bytes → IsTile bytes → IsEdge (length (vertex_list bytes)) (edge_list bytes edge)
 is_edge bytes edge are tile = record {
-    each = let P : List ℕ → Type 0 = All (λ vertex. vertex < length (vertex_list bytes)) in
-        subst P (edge_list_is bytes edge (vertices_in bytes) (edge_at bytes edge) (number_at 4 bytes (edge_at bytes edge)) refl refl refl)
-          (rw (vertex_total bytes) (edge_in_range bytes edge (vertices_in bytes) (edge_at bytes edge) (number_at 4 bytes (edge_at bytes edge)) tile refl refl refl));
-    few = omega (arith, edge_total bytes edge, number_small 4 bytes (edge_at bytes edge) are);
-  }
+  each = let P : List ℕ → Type 0 = All (λ vertex. vertex < length (vertex_list bytes)) in
+      subst P (edge_list_is bytes edge (vertices_in bytes) (edge_at bytes edge) (number_at 4 bytes (edge_at bytes edge)) refl refl refl)
+      (rw (vertex_total bytes) (edge_in_range bytes edge (vertices_in bytes) (edge_at bytes edge) (number_at 4 bytes (edge_at bytes edge)) tile refl refl refl));
+  few = omega (arith, edge_total bytes edge, number_small 4 bytes (edge_at bytes edge) are);
+}
 
 pub edge_of_mesh : (bytes : List ℕ) (edge : Edge) → edge_of (mesh_in bytes) edge ≡ edge_list bytes edge
 unfolding mesh_in
@@ -134,31 +133,31 @@ edge_of_mesh bytes North = refl
 mesh_sound : (bytes : List ℕ) → AreBytes bytes → IsTile bytes → IsMesh (mesh_in bytes)
 unfolding mesh_in vertices_in triangles_in
 mesh_sound bytes are tile = record {
-    vertices = let P : List Codes → Type 0 = All IsVertex in subst P (vertex_list_is bytes (vertices_in bytes) refl) (vertices_in_range bytes (vertices_in bytes));
-    few_vertices = omega (arith, vertex_total bytes, number_small 4 bytes 88 are);
-    triangles = let P : List Indexes → Type 0 = All (IsTriangle (length (vertex_list bytes))) in
-        subst P (triangle_list_is bytes (vertices_in bytes) (triangles_in bytes) refl refl) (rw (vertex_total bytes) (triangles_in_range bytes (vertices_in bytes) (triangles_in bytes) tile refl refl));
-    few_triangles = omega (arith, triangle_total bytes, number_small 4 bytes (index_data_at (vertices_in bytes)) are);
-    west = is_edge bytes West are tile;
-    south = is_edge bytes South are tile;
-    east = is_edge bytes East are tile;
-    north = is_edge bytes North are tile;
-  }
+  vertices = let P : List Codes → Type 0 = All IsVertex in subst P (vertex_list_is bytes (vertices_in bytes) refl) (vertices_in_range bytes (vertices_in bytes));
+  few_vertices = omega (arith, vertex_total bytes, number_small 4 bytes 88 are);
+  triangles = let P : List Indexes → Type 0 = All (IsTriangle (length (vertex_list bytes))) in
+      subst P (triangle_list_is bytes (vertices_in bytes) (triangles_in bytes) refl refl) (rw (vertex_total bytes) (triangles_in_range bytes (vertices_in bytes) (triangles_in bytes) tile refl refl));
+  few_triangles = omega (arith, triangle_total bytes, number_small 4 bytes (index_data_at (vertices_in bytes)) are);
+  west = is_edge bytes West are tile;
+  south = is_edge bytes South are tile;
+  east = is_edge bytes East are tile;
+  north = is_edge bytes North are tile;
+}
 
 pub decodes_by : (bytes : List ℕ) → AreBytes bytes → IsTile bytes → Decodes bytes (header_in bytes) (mesh_in bytes) (extension_list bytes)
 unfolding mesh_in extension_list
 decodes_by bytes are tile = record {
-    header_is = refl;
-    is_mesh = mesh_sound bytes are tile;
-    vertex_count = sym (vertex_total bytes);
-    codes = λ array. let P : List ℕ → Type 0 = HasCodes bytes (array_at (vertices_in bytes) array) in
-        subst P (sym (codes_list bytes array)) (has_codes bytes (array_at (vertices_in bytes) array) (vertices_in bytes) ((tile_sound bytes tile).arrays array));
-    triangle_count = sym (triangle_total bytes);
-    indexes = has_indexes bytes tile;
-    edge_counts = λ edge. sym (edge_total bytes edge) ∙ ap length (sym (edge_of_mesh bytes edge));
-    edges = λ edge. let P : List ℕ → Type 0 = HasEntries (index_width (vertices_in bytes)) bytes (edge_at bytes edge + 4) in
-        subst P (sym (edge_of_mesh bytes edge)) (has_entries bytes edge);
-    long_enough = (extensions_fit bytes tile).within;
-    to_the_end = extensions_text bytes (extensions_at bytes) are (extensions_fit bytes tile).fit;
-    are_extensions = are_extensions bytes (extensions_at bytes) are (extensions_fit bytes tile).fit;
-  }
+  header_is = refl;
+  is_mesh = mesh_sound bytes are tile;
+  vertex_count = sym (vertex_total bytes);
+  codes = λ array. let P : List ℕ → Type 0 = HasCodes bytes (array_at (vertices_in bytes) array) in
+      subst P (sym (codes_list bytes array)) (has_codes bytes (array_at (vertices_in bytes) array) (vertices_in bytes) ((tile_sound bytes tile).arrays array));
+  triangle_count = sym (triangle_total bytes);
+  indexes = has_indexes bytes tile;
+  edge_counts = λ edge. sym (edge_total bytes edge) ∙ ap length (sym (edge_of_mesh bytes edge));
+  edges = λ edge. let P : List ℕ → Type 0 = HasEntries (index_width (vertices_in bytes)) bytes (edge_at bytes edge + 4) in
+      subst P (sym (edge_of_mesh bytes edge)) (has_entries bytes edge);
+  long_enough = (extensions_fit bytes tile).within;
+  to_the_end = extensions_text bytes (extensions_at bytes) are (extensions_fit bytes tile).fit;
+  are_extensions = are_extensions bytes (extensions_at bytes) are (extensions_fit bytes tile).fit;
+}

@@ -1,7 +1,5 @@
 -- The lists along the edges of a mesh.
 use Rattle.std.proofs.Common.{◌≡◌, ℕ, List, refl}
-use Rattle.terrain_base.specs.declared.indexes.Indexes.{Indexes}
-use Rattle.mesh_codec.specs.declared.codes.Codes.{Codes}
 use Rattle.mesh_codec.specs.declared.edge.Edge.{Edge}
 use Rattle.mesh_codec.specs.declared.edge.Edge.TheVariants.{West, South, East, North}
 use Rattle.mesh_codec.specs.Mesh.{Mesh, edge_of, with_list}

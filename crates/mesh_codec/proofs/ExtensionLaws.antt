@@ -1,5 +1,5 @@
 -- Extensions against their spelling.
-use Rattle.std.proofs.Common.{◌≡◌, ℕ, zero, suc, ◌+◌, ◌-◌, ◌^◌, ◌<◌, ◌≤◌, Bool, true, false, cond, nat_lt, List, [], ◌∷◌, ◌++◌, length, take, drop, get_or, slice_index, slice_range, Option, Some, None, All, inl, inr, refl, sym, ap, ◌∙◌, arith, add-one, append_assoc}
+use Rattle.std.proofs.Common.{◌≡◌, ℕ, zero, suc, ◌+◌, ◌-◌, ◌<◌, ◌≤◌, true, false, cond, nat_lt, List, [], ◌∷◌, ◌++◌, length, take, drop, get_or, slice_index, slice_range, None, All, inl, inr, refl, sym, ap, ◌∙◌, arith, append_assoc}
 use Rattle.std.specs.List.{flat_map}
 use Rattle.std.specs.Option.{option_or}
 use Rattle.std.proofs.lemmas.List.{drop_more, drop_all, drop-drop, drop_at, take_at, length-drop, length-take, take-append-drop, length-append, get_or-drop}
@@ -7,7 +7,6 @@ use Rattle.std.proofs.lemmas.List.Elements.{All-cons, All-nil, All-head, All-tai
 use Rattle.std.proofs.lemmas.Bool.{cases_lt}
 use Rattle.std.proofs.lemmas.Bool.Decides.{nat_tests}
 use Rattle.byteorder.specs.Endian.{little_bytes}
-use Rattle.byteorder.specs.Numbers.{length-bytes_low_first}
 use Rattle.mesh_codec.specs.declared.refusal.TileRefusal.{TileRefusal}
 use Rattle.mesh_codec.specs.declared.refusal.TileRefusal.TheVariants.{ExtensionTruncated}
 use Rattle.mesh_codec.specs.Number.{number_at, AreBytes}
@@ -44,23 +43,23 @@ one_text bytes at are h fits =
     let rest : drop (at + 5) bytes ≡ body ++ drop end bytes = sym (take-append-drop (end - (at + 5)) (drop (at + 5) bytes)) ∙ ap (λ r. body ++ r) (drop-drop (end - (at + 5)) (at + 5) bytes ∙ ap (λ n. drop n bytes) last) in
     drop_more bytes at 0 h
     ∙ ap (λ l. slice_index bytes at ∷ l) (four_here bytes (at + 1) are long ∙ ap (λ n. little_bytes 4 (number_at 4 bytes (at + 1)) ++ drop n bytes) five
-        ∙ ap (λ l. little_bytes 4 (number_at 4 bytes (at + 1)) ++ l) rest
-        ∙ sym (append_assoc (little_bytes 4 (number_at 4 bytes (at + 1))) body (drop end bytes))
-        ∙ ap (λ n. (little_bytes 4 n ++ body) ++ drop end bytes) (sym (bytes_length bytes at fits)))
+    ∙ ap (λ l. little_bytes 4 (number_at 4 bytes (at + 1)) ++ l) rest
+    ∙ sym (append_assoc (little_bytes 4 (number_at 4 bytes (at + 1))) body (drop end bytes))
+    ∙ ap (λ n. (little_bytes 4 n ++ body) ++ drop end bytes) (sym (bytes_length bytes at fits)))
 
 -- what gets no refusal is spelled by its extensions
 text_from : (n : ℕ) (bytes : List ℕ) (at : ℕ) → AreBytes bytes → length bytes - at ≤ n → first_of (some_extension_conditions n bytes at) ≡ None → drop at bytes ≡ flat_map extension_text (some_extensions n bytes at)
 text_from zero bytes at are l e = drop_all at bytes (omega arith)
 text_from (suc n) bytes at are l e = elim (cases_lt at (length bytes)) [
   | inl early ↦
-    let end = extension_end bytes at in
-    let here = (ExtensionTruncated at when nat_lt (length bytes) end) in
-    let opened = ap (λ b. first_of (cond b (here ∷ some_extension_conditions n bytes end) [])) (sym (below at (length bytes) early)) ∙ e in
-    let both = or_both here (first_of (some_extension_conditions n bytes end)) opened in
-    let fits = fits_by (ExtensionTruncated at) (length bytes) end both.0 in
-    let later = text_from n bytes end are (omega (arith, end_beyond bytes at)) both.1 in
-    one_text bytes at are early fits ∙ ap (λ r. extension_text (extension_at bytes at) ++ r) later
-    ∙ ap (λ b. flat_map extension_text (cond b (extension_at bytes at ∷ some_extensions n bytes end) [])) (sym (below at (length bytes) early))
+      let end = extension_end bytes at in
+      let here = (ExtensionTruncated at when nat_lt (length bytes) end) in
+      let opened = ap (λ b. first_of (cond b (here ∷ some_extension_conditions n bytes end) [])) (sym (below at (length bytes) early)) ∙ e in
+      let both = or_both here (first_of (some_extension_conditions n bytes end)) opened in
+      let fits = fits_by (ExtensionTruncated at) (length bytes) end both.0 in
+      let later = text_from n bytes end are (omega (arith, end_beyond bytes at)) both.1 in
+      one_text bytes at are early fits ∙ ap (λ r. extension_text (extension_at bytes at) ++ r) later
+      ∙ ap (λ b. flat_map extension_text (cond b (extension_at bytes at ∷ some_extensions n bytes end) [])) (sym (below at (length bytes) early))
   | inr late ↦ drop_all at bytes late ∙ ap (λ b. flat_map extension_text (cond b (extension_at bytes at ∷ some_extensions n bytes (extension_end bytes at)) [])) (sym (not_below at (length bytes) late))
 ]
 
@@ -73,12 +72,12 @@ each_from : (n : ℕ) (bytes : List ℕ) (at : ℕ) → AreBytes bytes → first
 each_from zero bytes at are e = All-nil IsExtension
 each_from (suc n) bytes at are e = elim (cases_lt at (length bytes)) [
   | inl early ↦
-    let end = extension_end bytes at in
-    let here = (ExtensionTruncated at when nat_lt (length bytes) end) in
-    let opened = ap (λ b. first_of (cond b (here ∷ some_extension_conditions n bytes end) [])) (sym (below at (length bytes) early)) ∙ e in
-    let both = or_both here (first_of (some_extension_conditions n bytes end)) opened in
-    let fits = fits_by (ExtensionTruncated at) (length bytes) end both.0 in
-    rw (below at (length bytes) early) (All-cons IsExtension (extension_at bytes at) (some_extensions n bytes end)
+      let end = extension_end bytes at in
+      let here = (ExtensionTruncated at when nat_lt (length bytes) end) in
+      let opened = ap (λ b. first_of (cond b (here ∷ some_extension_conditions n bytes end) [])) (sym (below at (length bytes) early)) ∙ e in
+      let both = or_both here (first_of (some_extension_conditions n bytes end)) opened in
+      let fits = fits_by (ExtensionTruncated at) (length bytes) end both.0 in
+      rw (below at (length bytes) early) (All-cons IsExtension (extension_at bytes at) (some_extensions n bytes end)
       (record { id = are at; few = omega (arith, bytes_length bytes at fits, number_small 4 bytes (at + 1) are) }) (each_from n bytes end are both.1))
   | inr late ↦ rw (not_below at (length bytes) late) (All-nil IsExtension)
 ]
@@ -128,7 +127,7 @@ only_from (x ∷ xs) (suc n) bytes at l e all =
     record {
       same = ap (λ y. y ∷ xs) whole ∙ ap (λ l. extension_at bytes at ∷ l) later.same ∙ ap (λ b. cond b (extension_at bytes at ∷ some_extensions n bytes (extension_end bytes at)) []) (sym (below at (length bytes) early));
       none = ap (λ b. first_of (cond b ((ExtensionTruncated at when nat_lt (length bytes) (extension_end bytes at)) ∷ some_extension_conditions n bytes (extension_end bytes at)) [])) (below at (length bytes) early)
-        ∙ ap (λ b. option_or (ExtensionTruncated at when b) (first_of (some_extension_conditions n bytes (extension_end bytes at)))) (not_below (length bytes) (extension_end bytes at) inside) ∙ later.none;
+          ∙ ap (λ b. option_or (ExtensionTruncated at when b) (first_of (some_extension_conditions n bytes (extension_end bytes at)))) (not_below (length bytes) (extension_end bytes at) inside) ∙ later.none;
     }
   where
     add_zero : (n : ℕ) → n + 0 ≡ n

@@ -1,9 +1,8 @@
 -- Extensions, one after the other.
-use Rattle.std.proofs.Common.{◌≡◌, ℕ, zero, suc, ◌+◌, ◌-◌, ◌*◌, ◌<◌, ◌≤◌, Bool, true, false, cond, nat_lt, List, [], ◌∷◌, length, Option, Some, None, is_some, inl, inr, refl, sym, ap, ◌∙◌, arith}
+use Rattle.std.proofs.Common.{◌≡◌, ℕ, zero, suc, ◌+◌, ◌-◌, ◌<◌, ◌≤◌, Bool, true, false, cond, nat_lt, List, [], ◌∷◌, length, Option, Some, None, is_some, inl, inr, refl, sym, ap, ◌∙◌, arith}
 use Rattle.std.specs.Option.{option_or}
 use Rattle.std.proofs.lemmas.Bool.{cases_lt}
 use Rattle.std.proofs.lemmas.Bool.Decides.{nat_tests}
-use Rattle.mesh_codec.specs.declared.refusal.TileRefusal.{TileRefusal}
 use Rattle.mesh_codec.specs.declared.refusal.TileRefusal.TheVariants.{ExtensionTruncated}
 use Rattle.mesh_codec.specs.Extension.{ExtensionData, extension_end, extension_at, some_extensions, extensions_from}
 use Rattle.mesh_codec.specs.Refusal.{◌when◌, first_of, some_extension_conditions, extension_conditions}
@@ -25,7 +24,7 @@ some_same zero (suc n) bytes at p q = rw (not_below at (length bytes) (omega ari
 some_same (suc m) zero bytes at p q = rw (not_below at (length bytes) (omega arith)) refl
 some_same (suc m) (suc n) bytes at p q =
     ap (λ l. cond (nat_lt at (length bytes)) ((ExtensionTruncated at when nat_lt (length bytes) (extension_end bytes at)) ∷ l) [])
-      (some_same m n bytes (extension_end bytes at) (omega (arith, end_beyond bytes at)) (omega (arith, end_beyond bytes at)))
+    (some_same m n bytes (extension_end bytes at) (omega (arith, end_beyond bytes at)) (omega (arith, end_beyond bytes at)))
 
 conditions_step : (n : ℕ) (bytes : List ℕ) (at : ℕ) → length bytes ≤ n → at < length bytes
     → some_extension_conditions n bytes at ≡ (ExtensionTruncated at when nat_lt (length bytes) (extension_end bytes at)) ∷ some_extension_conditions n bytes (extension_end bytes at)
@@ -74,7 +73,7 @@ some_extensions_same zero (suc n) bytes at p q = rw (not_below at (length bytes)
 some_extensions_same (suc m) zero bytes at p q = rw (not_below at (length bytes) (omega arith)) refl
 some_extensions_same (suc m) (suc n) bytes at p q =
     ap (λ l. cond (nat_lt at (length bytes)) (extension_at bytes at ∷ l) [])
-      (some_extensions_same m n bytes (extension_end bytes at) (omega (arith, end_beyond bytes at)) (omega (arith, end_beyond bytes at)))
+    (some_extensions_same m n bytes (extension_end bytes at) (omega (arith, end_beyond bytes at)) (omega (arith, end_beyond bytes at)))
 
 some_extensions_step : (n : ℕ) (bytes : List ℕ) (at : ℕ) → length bytes ≤ n → at < length bytes
     → some_extensions n bytes at ≡ extension_at bytes at ∷ some_extensions n bytes (extension_end bytes at)
@@ -95,3 +94,15 @@ no_extensions (suc n) bytes at h = rw (not_below at (length bytes) h) refl
 pub extensions_none : (bytes : List ℕ) (at : ℕ) → length bytes ≤ at → extensions_from bytes at ≡ []
 unfolding extensions_from
 extensions_none bytes at h = no_extensions (length bytes) bytes at h
+
+few_extensions : (n : ℕ) (bytes : List ℕ) (at : ℕ) → length (some_extensions n bytes at) ≤ n
+few_extensions zero bytes at = omega arith
+few_extensions (suc n) bytes at = of_test (nat_lt at (length bytes)) (extension_at bytes at) (some_extensions n bytes (extension_end bytes at)) n (few_extensions n bytes (extension_end bytes at))
+  where
+    of_test : (b : Bool) (x : ExtensionData) (xs : List ExtensionData) (n : ℕ) → length xs ≤ n → length (cond b (x ∷ xs) []) ≤ suc n
+    of_test true x xs n h = omega arith
+    of_test false x xs n h = omega arith
+
+pub extensions_few : (bytes : List ℕ) (at : ℕ) → length (extensions_from bytes at) ≤ length bytes
+unfolding extensions_from
+extensions_few bytes at = few_extensions (length bytes) bytes at

@@ -1,5 +1,5 @@
 -- A first refusal, and what a call that answers by it gives.
-use Rattle.std.proofs.Common.{◌≡◌, ◌↔◌, ℕ, suc, ◌+◌, Bool, true, false, cond, List, [], ◌∷◌, ◌++◌, All, IsNone, Option, Some, None, is_some, Result, Ok, Err, IsOk, OnOk, refl, sym, ap, ◌∙◌, arith}
+use Rattle.std.proofs.Common.{◌≡◌, ◌↔◌, ℕ, suc, ◌+◌, true, false, cond, List, [], ◌∷◌, ◌++◌, All, IsNone, Option, Some, None, is_some, Result, Ok, Err, IsOk, OnOk, refl, sym, ap, ◌∙◌, arith}
 use Rattle.std.specs.Option.{option_map}
 use Rattle.std.proofs.lemmas.List.Elements.{All-cons}
 use Rattle.std.specs.Result.{result_err}

@@ -1,5 +1,5 @@
 -- The high water mark, step by step.
-use Rattle.std.proofs.Common.{◌≡◌, ◌≢◌, ℕ, zero, suc, ◌+◌, ◌*◌, ◌<◌, ◌≤◌, ◌==◌, ◌-◌, Bool, true, false, cond, Option, Some, None, List, [], ◌∷◌, ◌++◌, map, length, count_by, refl, sym, ap, ◌∙◌, arith}
+use Rattle.std.proofs.Common.{◌≡◌, ◌≢◌, ℕ, zero, suc, ◌+◌, ◌*◌, ◌<◌, ◌≤◌, ◌==◌, ◌-◌, Bool, true, false, cond, Some, None, List, [], ◌∷◌, ◌++◌, map, count_by, refl, sym, ap, ◌∙◌, arith}
 use Rattle.std.proofs.lemmas.Bool.Decides.{nat_tests}
 use Rattle.std.proofs.Math.Nat.{mul-le-mul_left}
 use Rattle.std.specs.List.{range_with_len}
@@ -27,6 +27,7 @@ mark_next width bytes at k =
   where
     zeroth : range_with_len 0 k ++ (0 + k) ∷ [] ≡ range_with_len 0 k ++ k ∷ []
     zeroth = let same : 0 + k ≡ k = omega arith in rw same refl
+
     chosen : (b : Bool) (n : ℕ) → n + cond b 1 0 ≡ cond b (n + 1) n
     chosen true n = refl
     chosen false n = omega arith

@@ -1,4 +1,3 @@
-pub mod ExtensionCounts
 pub mod Decoding
 pub mod Edges
 pub mod ExtensionLaws

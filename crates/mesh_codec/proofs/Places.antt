@@ -1,17 +1,15 @@
 -- Where the parts of a tile lie, and what is read there.
-use Rattle.std.proofs.Common.{◌≡◌, ℕ, zero, suc, ℤ, pos, negsuc, ◌+ℤ◌, ◌+◌, ◌-◌, ◌*◌, ◌<◌, ◌≤◌, ◌==◌, Bool, true, false, cond, List, [], ◌∷◌, length, map, nat_le, Option, Some, None, IsSome, is_some, unwrap_or, All, refl, sym, ap, ◌∙◌, arith}
+use Rattle.std.proofs.Common.{◌≡◌, ℕ, ℤ, pos, negsuc, ◌+ℤ◌, ◌+◌, ◌-◌, ◌*◌, ◌<◌, ◌≤◌, ◌==◌, Bool, true, false, cond, List, ◌∷◌, length, map, nat_le, Some, None, is_some, unwrap_or, All, refl, sym, ap, ◌∙◌, arith}
 use Rattle.std.specs.List.{range_with_len}
 use Rattle.std.proofs.Math.Nat.{mul-le-mul_left}
 use Rattle.std.proofs.lemmas.Bool.Decides.{nat_tests}
-use Rattle.terrain_base.specs.declared.indexes.Indexes.{Indexes}
-use Rattle.mesh_codec.specs.declared.codes.Codes.{Codes}
 use Rattle.mesh_codec.specs.declared.refusal.Array.{Array}
 use Rattle.mesh_codec.specs.declared.refusal.Array.TheVariants.{U, V, Height}
 use Rattle.mesh_codec.specs.declared.edge.Edge.{Edge}
 use Rattle.mesh_codec.specs.declared.edge.Edge.TheVariants.{West, South, East, North}
 use Rattle.mesh_codec.specs.Number.{number_at}
 use Rattle.mesh_codec.specs.Text.{index_width, index_data_at}
-use Rattle.mesh_codec.specs.Difference.{difference_at, sum_before, running_value, to_code, code_at}
+use Rattle.mesh_codec.specs.Difference.{difference_at, running_value, to_code, code_at}
 use Rattle.mesh_codec.specs.HighWater.{entry_at, mark_at, index_at, is_no_vertex}
 use Rattle.mesh_codec.specs.Layout.{vertices_in, triangles_in, array_at, list_end, west_at, south_at, east_at, north_at, extensions_at, edge_at}
 use Rattle.mesh_codec.specs.Tile.{vertex_at, triangle_at, vertex_list, triangle_list, edge_list}
@@ -21,7 +19,7 @@ use Rattle.mesh_codec.proofs.First.{range_next}
 use Rattle.mesh_codec.proofs.Lists.{each_of}
 use Rattle.mesh_codec.proofs.Runs.{sum_next, code_is, running_is}
 use Rattle.mesh_codec.proofs.HighWaters.{mark_next}
-use Rattle.mesh_codec.proofs.Sounds.{Sound, tile_sound}
+use Rattle.mesh_codec.proofs.Sounds.{tile_sound}
 
 pub counted : (bytes : List ℕ) → IsTile bytes → 92 ≤ length bytes
 counted bytes tile = (tile_sound bytes tile).counted
@@ -146,7 +144,10 @@ code_small bytes at k = of_code (running_value bytes at k)
 
 pub vertices_in_range : (bytes : List ℕ) (vertices : ℕ) → All IsVertex (map (vertex_at bytes vertices) (range_with_len 0 (vertices - 0)))
 vertices_in_range bytes vertices = each_of IsVertex (vertex_at bytes vertices) (vertices - 0) (λ k h. record {
-    u = code_small bytes (array_at vertices U) k; v = code_small bytes (array_at vertices V) k; height = code_small bytes (array_at vertices Height) k })
+  u = code_small bytes (array_at vertices U) k;
+  v = code_small bytes (array_at vertices V) k;
+  height = code_small bytes (array_at vertices Height) k;
+})
 
 index_small : (bytes : List ℕ) (vertices k : ℕ) → IsTile bytes → vertices ≡ vertices_in bytes → k < 3 * triangles_in bytes → index_at (index_width vertices) bytes (index_data_at vertices + 4) k < vertices
 unfolding index_at triangles_in
@@ -159,7 +160,10 @@ index_small bytes vertices k tile e h =
 pub triangles_in_range : (bytes : List ℕ) (vertices triangles : ℕ) → IsTile bytes → vertices ≡ vertices_in bytes → triangles ≡ triangles_in bytes
     → All (IsTriangle (vertices_in bytes)) (map (triangle_at bytes vertices) (range_with_len 0 (triangles - 0)))
 triangles_in_range bytes vertices triangles tile e n = each_of (IsTriangle (vertices_in bytes)) (triangle_at bytes vertices) (triangles - 0) (λ k h. record {
-    a = small (3 * k) (omega (arith, h, n)); b = small (3 * k + 1) (omega (arith, h, n)); c = small (3 * k + 2) (omega (arith, h, n)) })
+  a = small (3 * k) (omega (arith, h, n));
+  b = small (3 * k + 1) (omega (arith, h, n));
+  c = small (3 * k + 2) (omega (arith, h, n));
+})
   where
     small : (k : ℕ) → k < 3 * triangles_in bytes → index_at (index_width vertices) bytes (index_data_at vertices + 4) k < vertices_in bytes
     small k h = omega (arith, e, index_small bytes vertices k tile e h)

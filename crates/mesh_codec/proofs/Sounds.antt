@@ -1,5 +1,5 @@
 -- What holds of bytes that get no refusal, and the other way round.
-use Rattle.std.proofs.Common.{◌≡◌, ℕ, zero, suc, ◌+◌, ◌-◌, ◌*◌, ◌<◌, ◌≤◌, Bool, true, false, not, cond, nat_lt, nat_le, List, [], ◌∷◌, ◌++◌, length, map, Option, Some, None, is_some, inl, inr, refl, sym, ap, ◌∙◌, arith}
+use Rattle.std.proofs.Common.{◌≡◌, ℕ, zero, suc, ◌+◌, ◌-◌, ◌*◌, ◌<◌, ◌≤◌, Bool, true, false, not, cond, nat_lt, nat_le, List, length, map, Option, Some, None, is_some, inl, inr, refl, sym, ap, ◌∙◌, arith}
 use Rattle.std.specs.List.{range_with_len}
 use Rattle.std.specs.Option.{option_or, option_map}
 use Rattle.std.proofs.lemmas.Bool.{cases_eq}
@@ -14,10 +14,10 @@ use Rattle.mesh_codec.specs.Number.{number_at}
 use Rattle.mesh_codec.specs.Text.{index_width, index_data_at}
 use Rattle.mesh_codec.specs.Difference.{running_value, to_code}
 use Rattle.mesh_codec.specs.HighWater.{entry_at, mark_at, is_no_vertex}
-use Rattle.mesh_codec.specs.Layout.{vertices_in, triangles_in, array_at, list_end, west_at, south_at, east_at, north_at, extensions_at, edge_at}
-use Rattle.mesh_codec.specs.Refusal.{◌when◌, first_of, part_condition, code_condition, array_conditions, vertex_conditions, index_condition, triangle_conditions, entry_condition, edge_conditions, extension_conditions, conditions_of, is_gzip, tile_refusal_of}
+use Rattle.mesh_codec.specs.Layout.{vertices_in, array_at, list_end, west_at, south_at, east_at, north_at, extensions_at, edge_at}
+use Rattle.mesh_codec.specs.Refusal.{◌when◌, first_of, part_condition, code_condition, array_conditions, index_condition, triangle_conditions, entry_condition, edge_conditions, extension_conditions, conditions_of, is_gzip, tile_refusal_of}
 use Rattle.mesh_codec.specs.Good.{IsTile}
-use Rattle.mesh_codec.proofs.First.{first_of_append, vertex_first, all_first}
+use Rattle.mesh_codec.proofs.First.{vertex_first, all_first}
 use Rattle.mesh_codec.proofs.Texts.{index_data_beyond}
 
 -- an array fits, and each running value is a code
@@ -132,8 +132,8 @@ unfolding triangle_conditions
 sound_triangles bytes vertices at s =
     let codes = 3 * number_at 4 bytes at in
     both_or _ _ (fits_part bytes at 4 (omega (arith, s.fits)))
-      (both_or _ _ (fits_part bytes (at + 4) (index_width vertices * codes) s.fits)
-        (each_none (index_condition bytes vertices (at + 4)) codes (λ k h. none_when (IndexOutOfRange k) _ (s.indexes k h))))
+    (both_or _ _ (fits_part bytes (at + 4) (index_width vertices * codes) s.fits)
+    (each_none (index_condition bytes vertices (at + 4)) codes (λ k h. none_when (IndexOutOfRange k) _ (s.indexes k h))))
 
 list_sound : (bytes : List ℕ) (vertices : ℕ) (edge : Edge) (at : ℕ) → first_of (edge_conditions bytes vertices edge at) ≡ None → ListSound bytes vertices at
 unfolding edge_conditions list_end
@@ -151,8 +151,8 @@ unfolding edge_conditions list_end
 sound_list bytes vertices edge at s =
     let count = number_at 4 bytes at in
     both_or _ _ (fits_part bytes at 4 (omega (arith, s.fits)))
-      (both_or _ _ (fits_part bytes (at + 4) (index_width vertices * count) s.fits)
-        (each_none (entry_condition bytes vertices edge (at + 4)) count (λ k h. none_when (EdgeIndexTooLarge edge k) _ (reached_not vertices _ (s.entries k h)))))
+    (both_or _ _ (fits_part bytes (at + 4) (index_width vertices * count) s.fits)
+    (each_none (entry_condition bytes vertices edge (at + 4)) count (λ k h. none_when (EdgeIndexTooLarge edge k) _ (reached_not vertices _ (s.entries k h)))))
 
 -- ---- the whole
 pub sound : (bytes : List ℕ) → first_of (conditions_of bytes) ≡ None → Sound bytes
@@ -192,14 +192,14 @@ no_refusal bytes s =
     let vertices = vertices_in bytes in
     let beyond = index_data_beyond vertices in
     all_first bytes ∙ both_or _ _ (fits_part bytes 0 88 (omega (arith, s.counted))) (both_or _ _ (fits_part bytes 88 4 s.counted)
-      (both_or _ _ (vertex_first bytes vertices ∙ both_or _ _ (sound_array bytes U 92 vertices (s.arrays U))
-          (both_or _ _ (sound_array bytes V (92 + 2 * vertices) vertices (s.arrays V)) (both_or _ _ (sound_array bytes Height (92 + 4 * vertices) vertices (s.arrays Height))
-          (fits_part bytes (92 + 6 * vertices) (index_data_at vertices - (92 + 6 * vertices)) (omega (arith, beyond.0, s.triangles.fits))))))
-      (both_or _ _ (sound_triangles bytes vertices (index_data_at vertices) s.triangles)
-      (both_or _ _ (sound_list bytes vertices West (west_at bytes) (s.edges West))
-      (both_or _ _ (sound_list bytes vertices South (south_at bytes) (s.edges South))
-      (both_or _ _ (sound_list bytes vertices East (east_at bytes) (s.edges East))
-      (both_or _ _ (sound_list bytes vertices North (north_at bytes) (s.edges North)) s.extensions)))))))
+    (both_or _ _ (vertex_first bytes vertices ∙ both_or _ _ (sound_array bytes U 92 vertices (s.arrays U))
+    (both_or _ _ (sound_array bytes V (92 + 2 * vertices) vertices (s.arrays V)) (both_or _ _ (sound_array bytes Height (92 + 4 * vertices) vertices (s.arrays Height))
+    (fits_part bytes (92 + 6 * vertices) (index_data_at vertices - (92 + 6 * vertices)) (omega (arith, beyond.0, s.triangles.fits))))))
+    (both_or _ _ (sound_triangles bytes vertices (index_data_at vertices) s.triangles)
+    (both_or _ _ (sound_list bytes vertices West (west_at bytes) (s.edges West))
+    (both_or _ _ (sound_list bytes vertices South (south_at bytes) (s.edges South))
+    (both_or _ _ (sound_list bytes vertices East (east_at bytes) (s.edges East))
+    (both_or _ _ (sound_list bytes vertices North (north_at bytes) (s.edges North)) s.extensions)))))))
 
 -- gzip makes no tile of what is none
 first_none : (b : Bool) (first : Option TileRefusal) → cond b (option_map (λ (refusal : TileRefusal). Compressed) first) first ≡ None → first ≡ None

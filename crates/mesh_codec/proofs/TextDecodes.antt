@@ -1,25 +1,22 @@
 -- The spelling of a header and a mesh, part by part.
-use Rattle.std.proofs.Common.{◌≡◌, ◌≢◌, ℕ, zero, suc, ◌+◌, ◌-◌, ◌*◌, ◌^◌, ◌<◌, ◌≤◌, ◌⊎◌, Bool, true, false, cond, nat_lt, List, [], ◌∷◌, ◌++◌, length, map, drop, get_or, slice_index, replicate, All, inl, inr, refl, sym, ap, ◌∙◌, subst, arith, append_assoc}
+use Rattle.std.proofs.Common.{◌≡◌, ◌≢◌, ℕ, ◌+◌, ◌-◌, ◌*◌, ◌^◌, ◌<◌, ◌≤◌, true, false, nat_lt, List, [], ◌∷◌, ◌++◌, length, map, drop, All, inl, inr, refl, sym, ap, ◌∙◌, arith, append_assoc}
 use Rattle.std.specs.List.{flat_map}
-use Rattle.std.proofs.lemmas.List.{drop_at, length-append, length-drop, length-map, length-replicate, append-nil, drop_all, get_or-map}
+use Rattle.std.proofs.lemmas.List.{length-append, length-drop, length-map, append-nil}
 use Rattle.std.proofs.lemmas.List.Elements.{All-nil, All-map, All-weaker}
 use Rattle.std.proofs.lemmas.Bool.{cases_lt}
 use Rattle.std.proofs.lemmas.Bool.Decides.{nat_tests}
 use Rattle.byteorder.specs.Endian.{little_bytes}
-use Rattle.byteorder.specs.Numbers.{length-bytes_low_first}
-use Rattle.terrain_base.specs.declared.indexes.Indexes.{Indexes}
 use Rattle.mesh_codec.specs.declared.header.Header.{Header}
-use Rattle.mesh_codec.specs.declared.codes.Codes.{Codes}
 use Rattle.mesh_codec.specs.declared.refusal.Array.{Array}
 use Rattle.mesh_codec.specs.declared.refusal.Array.TheVariants.{U, V, Height}
 use Rattle.mesh_codec.specs.declared.edge.Edge.{Edge}
 use Rattle.mesh_codec.specs.declared.edge.Edge.TheVariants.{West, South, East, North}
 use Rattle.mesh_codec.specs.Number.{number_at}
 use Rattle.mesh_codec.specs.Mesh.{Mesh, IsMesh, IsEncodable, IsVertex, IsEdge, coordinate, corners, edge_of}
-use Rattle.mesh_codec.specs.Text.{IsPoint, IsHeader, point_text, header_text, array_text, arrays_text, index_width, index_data_at, padding_text, indexes_text, triangles_text, edge_text, edges_text, tile_text}
+use Rattle.mesh_codec.specs.Text.{IsPoint, IsHeader, point_text, header_text, array_text, index_width, index_data_at, padding_text, indexes_text, edge_text, tile_text}
 use Rattle.mesh_codec.specs.Difference.{HasCodes}
 use Rattle.mesh_codec.specs.HighWater.{HasIndexes, HasEntries}
-use Rattle.mesh_codec.specs.Extension.{ExtensionData, IsExtension, extension_text}
+use Rattle.mesh_codec.specs.Extension.{IsExtension}
 use Rattle.mesh_codec.specs.Layout.{vertices_in, triangles_in, array_at, list_end, west_at, south_at, east_at, north_at, extensions_at, edge_at}
 use Rattle.mesh_codec.specs.Tile.{point_at, header_in, Decodes}
 use Rattle.mesh_codec.proofs.Numbers.{number_here}
@@ -81,9 +78,11 @@ list_back text width limit at list rest f h e =
     let entries = flat_map (little_bytes width) list in
     let count = number_here 4 text at (length list) (entries ++ rest) e h.few in
     let inside = behind text at 4 (little_bytes 4 (length list)) (entries ++ rest) e refl in
-    let end : at + 4 + width * number_at 4 text at ≡ at + 4 + width * length list = ap (λ n. at + 4 + width * n) count in
-    (count, has_entries width limit list (at + 4) text rest f h.each inside,
-      ap (λ n. drop n text) end ∙ behind text (at + 4) (width * length list) entries rest inside (length-entries_text width list))
+    let end : at + 4 + width * number_at 4 text at ≡ at + 4 + width * length list = ap (λ n. at + 4 + width * n) count in (
+      count,
+      has_entries width limit list (at + 4) text rest f h.each inside,
+      ap (λ n. drop n text) end ∙ behind text (at + 4) (width * length list) entries rest inside (length-entries_text width list),
+    )
 
 width_holds : (vertices : ℕ) → vertices < 2 ^ 32 → vertices ≢ 65536 → vertices < 256 ^ index_width vertices
 unfolding index_width
@@ -223,8 +222,15 @@ module _ (header : Header) (mesh : Mesh) (is_header : IsHeader header) (is_mesh 
 
     ends_within : extensions_at text ≤ length text
     ends_within =
-        omega (arith, end_is, ap length d_north, length-drop (north_at text) text, length-append (edge_text width mesh.north) [],
-          length-append (little_bytes 4 (length mesh.north)) (flat_map (little_bytes width) mesh.north), length-entries_text width mesh.north)
+        omega (
+          arith,
+          end_is,
+          ap length d_north,
+          length-drop (north_at text) text,
+          length-append (edge_text width mesh.north) [],
+          length-append (little_bytes 4 (length mesh.north)) (flat_map (little_bytes width) mesh.north),
+          length-entries_text width mesh.north,
+        )
 
     codes_at : (array : Array) → HasCodes text (array_at vertices array) (codes array)
     codes_at U = has_codes (codes U) 92 text from_vs (all_small U) d_us

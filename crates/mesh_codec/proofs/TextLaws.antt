@@ -1,15 +1,15 @@
 -- The spelling of a header and a mesh decodes to them.
-use Rattle.std.proofs.Common.{◌≡◌, ◌≢◌, ℕ, zero, suc, ℤ, pos, negsuc, ◌+ℤ◌, ◌+◌, ◌-◌, ◌*◌, ◌/◌, ◌%◌, ◌^◌, ◌<◌, ◌≤◌, ◌⊎◌, ◌==◌, Bool, true, false, cond, nat_le, nat_lt, List, [], ◌∷◌, ◌++◌, length, map, drop, get_or, slice_index, replicate, All, inl, inr, refl, sym, ap, ◌∙◌, subst, arith, append_assoc, add-one}
-use Rattle.std.specs.List.{flat_map, range_with_len}
-use Rattle.std.proofs.lemmas.List.{drop-drop, drop_at, length-append, length-map, length-replicate, append-nil, get_or-map}
-use Rattle.std.proofs.lemmas.List.Elements.{All-nil, All-head, All-tail}
+use Rattle.std.proofs.Common.{◌≡◌, ℕ, zero, suc, ℤ, pos, negsuc, ◌+ℤ◌, ◌+◌, ◌-◌, ◌*◌, ◌/◌, ◌%◌, ◌^◌, ◌<◌, ◌≤◌, ◌==◌, Bool, true, false, cond, nat_le, nat_lt, List, [], ◌∷◌, ◌++◌, length, drop, get_or, slice_index, All, inl, inr, refl, sym, ap, ◌∙◌, arith, append_assoc}
+use Rattle.std.specs.List.{flat_map}
+use Rattle.std.proofs.lemmas.List.{drop-drop, drop_at, length-append}
+use Rattle.std.proofs.lemmas.List.Elements.{All-head, All-tail}
 use Rattle.std.proofs.lemmas.Bool.{cases_lt}
 use Rattle.std.proofs.lemmas.Bool.Decides.{nat_tests}
 use Rattle.byteorder.specs.Endian.{little_bytes}
 use Rattle.byteorder.specs.Numbers.{length-bytes_low_first}
 use Rattle.mesh_codec.specs.Number.{number_at}
-use Rattle.mesh_codec.specs.Text.{zigzag, array_text, index_width, mark_after, AreWithinMark, indexes_text}
-use Rattle.mesh_codec.specs.Difference.{difference, difference_at, HasCodes}
+use Rattle.mesh_codec.specs.Text.{zigzag, array_text, mark_after, AreWithinMark, indexes_text}
+use Rattle.mesh_codec.specs.Difference.{difference, HasCodes}
 use Rattle.mesh_codec.specs.HighWater.{entry_at, mark_at, HasIndexes, HasEntries}
 use Rattle.mesh_codec.proofs.Numbers.{number_here}
 use Rattle.mesh_codec.proofs.HighWaters.{mark_next, mark_none}
@@ -32,15 +32,15 @@ up_is before code h = let back : before + (code - before) ≡ code = omega arith
 zigzag_is : (before code : ℕ) → pos code ≡ pos before +ℤ difference (zigzag before code)
 zigzag_is before code = elim (cases_lt code before) [
   | inl less ↦
-    let down : nat_le before code ≡ false = grind (arith, nat_tests) in
-    let odd : (2 * (before - code) - 1) % 2 ≡ 1 = omega arith in
-    let half : (2 * (before - code) - 1) / 2 ≡ before - code - 1 = omega arith in
-    rw (down, odd, half) (down_is before code less)
+      let down : nat_le before code ≡ false = grind (arith, nat_tests) in
+      let odd : (2 * (before - code) - 1) % 2 ≡ 1 = omega arith in
+      let half : (2 * (before - code) - 1) / 2 ≡ before - code - 1 = omega arith in
+      rw (down, odd, half) (down_is before code less)
   | inr more ↦
-    let up : nat_le before code ≡ true = grind (arith, nat_tests) in
-    let even : 2 * (code - before) % 2 ≡ 0 = omega arith in
-    let half : 2 * (code - before) / 2 ≡ code - before = omega arith in
-    rw (up, even, half) (up_is before code more)
+      let up : nat_le before code ≡ true = grind (arith, nat_tests) in
+      let even : 2 * (code - before) % 2 ≡ 0 = omega arith in
+      let half : 2 * (code - before) / 2 ≡ code - before = omega arith in
+      rw (up, even, half) (up_is before code more)
 ]
 
 zigzag_small : (before code : ℕ) → before ≤ 32767 → code ≤ 32767 → zigzag before code < 65536
@@ -80,6 +80,7 @@ mark_front width text at zero =
   where
     one : suc zero ≡ 0 + 1
     one = omega arith
+
     of_test : (b : Bool) → cond b (0 + 1) 0 ≡ cond b 1 0 + 0
     of_test true = omega arith
     of_test false = omega arith
@@ -92,10 +93,13 @@ mark_front width text at (suc k) =
   where
     one : suc (suc k) ≡ suc k + 1
     one = omega arith
+
     later : suc k ≡ k + 1
     later = omega arith
+
     shifted : at + width * suc k ≡ at + width + width * k
     shifted = omega arith
+
     of_test : (b : Bool) (m n : ℕ) → cond b (m + n + 1) (m + n) ≡ m + cond b (n + 1) n
     of_test true m n = omega arith
     of_test false m n = refl
@@ -124,6 +128,7 @@ indexes_in width limit (index ∷ indexes) mark at text rest m f all within e (s
   where
     next_small : (mark index limit : ℕ) → mark ≤ limit → index < limit → mark_after mark index ≤ limit
     next_small mark index limit m b = grind (arith, nat_tests)
+
     next_is : (mark index code : ℕ) → index ≤ mark → code ≡ mark - index → mark_after mark index ≡ mark + cond (code == 0) 1 0
     next_is mark index code w e = grind (arith, nat_tests)
 

@@ -1,6 +1,5 @@
 -- The spelling of a mesh, step by step.
-use Rattle.std.proofs.Common.{◌≡◌, ℕ, suc, ◌+◌, ◌-◌, ◌*◌, ◌/◌, ◌%◌, ◌<◌, ◌≤◌, ◌≢◌, ◌⊎◌, inl, inr, ◌==◌, nat_lt, List, [], ◌∷◌, ◌++◌, length, map, drop, get_or, replicate, Bool, true, false, cond, All, refl, ap, sym, ◌∙◌, append_assoc, subst, arith}
-use Rattle.std.specs.List.{flat_map}
+use Rattle.std.proofs.Common.{◌≡◌, ℕ, ◌+◌, ◌-◌, ◌*◌, ◌/◌, ◌%◌, ◌<◌, ◌≤◌, nat_lt, List, [], ◌∷◌, ◌++◌, length, map, drop, get_or, true, false, cond, refl, ap, sym, ◌∙◌, append_assoc, arith}
 use Rattle.std.proofs.lemmas.List.{drop_more, drop-map, length-replicate}
 use Rattle.std.proofs.lemmas.Bool.Decides.{nat_tests}
 use Rattle.byteorder.specs.Endian.{little_bytes}
@@ -8,8 +7,8 @@ use Rattle.terrain_base.specs.declared.indexes.Indexes.{Indexes}
 use Rattle.mesh_codec.specs.declared.codes.Codes.{Codes}
 use Rattle.mesh_codec.specs.declared.refusal.Array.{Array}
 use Rattle.mesh_codec.specs.declared.refusal.Array.TheVariants.{U, V, Height}
-use Rattle.mesh_codec.specs.Mesh.{IsVertex, IsTriangle, coordinate, corners, corners_of}
-use Rattle.mesh_codec.specs.Text.{zigzag, array_text, index_width, aligned, index_data_at, padding_text, mark_after, AreWithinMark, indexes_text}
+use Rattle.mesh_codec.specs.Mesh.{IsVertex, coordinate, corners}
+use Rattle.mesh_codec.specs.Text.{zigzag, array_text, index_width, index_data_at, padding_text}
 
 -- a code of a vertex is below 2 ^ 15
 pub coordinate_small : (array : Array) (codes : Codes) → IsVertex codes → coordinate array codes ≤ 32767
@@ -24,7 +23,7 @@ pub array_next : (array : Array) (vertices : List Codes) (i before : ℕ) (d : C
 array_next array vertices i before d out whole h e =
     let code = coordinate array (get_or vertices i d) in
     let rest : drop i (map (coordinate array) vertices) ≡ code ∷ drop (i + 1) (map (coordinate array) vertices) =
-        drop-map (coordinate array) i vertices ∙ ap (map (coordinate array)) (drop_more vertices i d h) ∙ ap (λ l. code ∷ l) (sym (drop-map (coordinate array) (i + 1) vertices)) in
+    drop-map (coordinate array) i vertices ∙ ap (map (coordinate array)) (drop_more vertices i d h) ∙ ap (λ l. code ∷ l) (sym (drop-map (coordinate array) (i + 1) vertices)) in
     append_assoc out (little_bytes 2 (zigzag before code)) (array_text code (drop (i + 1) (map (coordinate array) vertices)))
     ∙ ap (λ l. out ++ array_text before l) (sym rest) ∙ e
 

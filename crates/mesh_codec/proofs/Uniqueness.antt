@@ -1,9 +1,7 @@
 -- What decodes gets no refusal, and decodes to nothing but what is read of it.
-use Rattle.std.proofs.Common.{◌≡◌, ℕ, zero, suc, ℤ, pos, negsuc, ◌+ℤ◌, ◌+◌, ◌-◌, ◌*◌, ◌^◌, ◌<◌, ◌≤◌, Bool, true, false, cond, nat_lt, nat_le, ◌||◌, List, [], ◌∷◌, ◌++◌, length, map, get_or, drop, slice_index, Option, Some, None, is_some, unwrap_or, All, refl, sym, ap, ◌∙◌, subst, arith, add-one}
-use Rattle.std.specs.List.{range_with_len, flat_map}
+use Rattle.std.proofs.Common.{◌≡◌, ℕ, zero, suc, ℤ, pos, ◌+ℤ◌, ◌+◌, ◌-◌, ◌*◌, ◌<◌, ◌≤◌, false, List, [], ◌∷◌, length, map, get_or, drop, slice_index, Some, is_some, unwrap_or, refl, sym, ap, ◌∙◌, arith}
 use Rattle.std.proofs.lemmas.List.FromFn.{fill_by_all}
 use Rattle.std.proofs.lemmas.List.{length-map, get_or-map}
-use Rattle.std.proofs.lemmas.List.Elements.{All-get_or}
 use Rattle.std.proofs.lemmas.Bool.Decides.{nat_tests}
 use Rattle.terrain_base.specs.declared.indexes.Indexes.{Indexes}
 use Rattle.mesh_codec.specs.declared.header.Header.{Header}
@@ -13,13 +11,13 @@ use Rattle.mesh_codec.specs.declared.refusal.Array.TheVariants.{U, V, Height}
 use Rattle.mesh_codec.specs.declared.edge.Edge.{Edge}
 use Rattle.mesh_codec.specs.declared.edge.Edge.TheVariants.{West, South, East, North}
 use Rattle.mesh_codec.specs.Number.{number_at}
-use Rattle.mesh_codec.specs.Mesh.{Mesh, IsMesh, IsVertex, IsTriangle, IsEdge, coordinate, corners, corners_of, edge_of}
+use Rattle.mesh_codec.specs.Mesh.{Mesh, IsTriangle, IsEdge, coordinate, corners, edge_of}
 use Rattle.mesh_codec.specs.Text.{index_width, index_data_at}
 use Rattle.mesh_codec.specs.Difference.{difference_at, sum_before, running_value, to_code, code_at, HasCodes}
-use Rattle.mesh_codec.specs.HighWater.{entry_at, mark_at, index_at, is_no_vertex, HasIndexes, HasEntries}
+use Rattle.mesh_codec.specs.HighWater.{entry_at, mark_at, index_at, is_no_vertex}
 use Rattle.mesh_codec.specs.Extension.{ExtensionData}
 use Rattle.mesh_codec.specs.Layout.{vertices_in, triangles_in, array_at, list_end, west_at, south_at, east_at, north_at, extensions_at, edge_at}
-use Rattle.mesh_codec.specs.Tile.{header_in, vertex_at, vertex_list, triangle_at, triangle_list, edge_list, extension_list, mesh_in, Decodes}
+use Rattle.mesh_codec.specs.Tile.{vertex_at, vertex_list, triangle_list, edge_list, extension_list, mesh_in, Decodes}
 use Rattle.mesh_codec.proofs.Runs.{sum_next, sum_none}
 use Rattle.mesh_codec.proofs.Texts.{coordinate_small, index_data_beyond}
 use Rattle.mesh_codec.proofs.Sounds.{Sound, ArraySound, TrianglesSound, ListSound}
@@ -142,9 +140,9 @@ module _ (bytes : List ℕ) (header : Header) (mesh : Mesh) (extensions : List E
   triangles_sound = record {
     fits = index_data_fits bytes decodes.long_enough;
     indexes = λ k h.
-      let early : k < length (corners mesh.triangles) = omega (arith, h, corner_total) in
-      let small = corners_small (length mesh.vertices) mesh.triangles decodes.is_mesh.triangles k early in
-      no_vertex_not (slice_index (corners mesh.triangles) k) _ _ (vertices_in bytes) (decodes.indexes k early) (omega (arith, small, decodes.vertex_count));
+        let early : k < length (corners mesh.triangles) = omega (arith, h, corner_total) in
+        let small = corners_small (length mesh.vertices) mesh.triangles decodes.is_mesh.triangles k early in
+        no_vertex_not (slice_index (corners mesh.triangles) k) _ _ (vertices_in bytes) (decodes.indexes k early) (omega (arith, small, decodes.vertex_count));
   }
 
   edge_is : (edge : Edge) → IsEdge (length mesh.vertices) (edge_of mesh edge)
@@ -157,8 +155,8 @@ module _ (bytes : List ℕ) (header : Header) (mesh : Mesh) (extensions : List E
   list_sound edge = record {
     fits = list_within bytes edge decodes.long_enough;
     entries = λ k h.
-      let early : k < length (edge_of mesh edge) = omega (arith, h, decodes.edge_counts edge) in
-      omega (arith, decodes.edges edge k early, (edge_is edge).each k 0 early, decodes.vertex_count);
+        let early : k < length (edge_of mesh edge) = omega (arith, h, decodes.edge_counts edge) in
+        omega (arith, decodes.edges edge k early, (edge_is edge).each k 0 early, decodes.vertex_count);
   }
 
   pub sound_by : Sound bytes
@@ -175,12 +173,12 @@ module _ (bytes : List ℕ) (header : Header) (mesh : Mesh) (extensions : List E
   same_vertices =
       let d : Codes = record { u = 0; v = 0; height = 0 } in
       let code : (array : Array) (k : ℕ) → k < vertices_in bytes → coordinate array (get_or mesh.vertices k d) ≡ code_at bytes (array_at (vertices_in bytes) array) k =
-          λ array k h. sym (code_of_vertex array k d h) ∙ sym (code_is bytes (array_at (vertices_in bytes) array) k _ (running array k h) (code_fits array k h)) in
+      λ array k h. sym (code_of_vertex array k d h) ∙ sym (code_is bytes (array_at (vertices_in bytes) array) k _ (running array k h) (code_fits array k h)) in
       fill_by_all (vertex_at bytes (vertices_in bytes)) mesh.vertices (vertices_in bytes) d (sym decodes.vertex_count) (λ k h.
-        let vertex = get_or mesh.vertices k d in
-        ap (λ u. record { u = u; v = vertex.v; height = vertex.height }) (code U k h)
-        ∙ ap (λ v. record { u = code_at bytes (array_at (vertices_in bytes) U) k; v = v; height = vertex.height }) (code V k h)
-        ∙ ap (λ height. record { u = code_at bytes (array_at (vertices_in bytes) U) k; v = code_at bytes (array_at (vertices_in bytes) V) k; height = height }) (code Height k h))
+      let vertex = get_or mesh.vertices k d in
+      ap (λ u. record { u = u; v = vertex.v; height = vertex.height }) (code U k h)
+      ∙ ap (λ v. record { u = code_at bytes (array_at (vertices_in bytes) U) k; v = v; height = vertex.height }) (code V k h)
+      ∙ ap (λ height. record { u = code_at bytes (array_at (vertices_in bytes) U) k; v = code_at bytes (array_at (vertices_in bytes) V) k; height = height }) (code Height k h))
 
   less : (index m n : ℕ) → index + n ≡ m → index ≡ m - n
   less index m n e = omega arith
@@ -191,15 +189,15 @@ module _ (bytes : List ℕ) (header : Header) (mesh : Mesh) (extensions : List E
       let width = index_width (vertices_in bytes) in
       let at = index_data_at (vertices_in bytes) + 4 in
       same_triangles mesh.triangles (triangle_list bytes)
-        (fill_by_all (index_at width bytes at) (corners mesh.triangles) (3 * triangles_in bytes) 0 corner_total
-          (λ k h. less (slice_index (corners mesh.triangles) k) (mark_at width bytes at k) (entry_at width bytes at k) (decodes.indexes k (omega (arith, h, corner_total))))
-        ∙ sym (corners_list bytes))
+      (fill_by_all (index_at width bytes at) (corners mesh.triangles) (3 * triangles_in bytes) 0 corner_total
+      (λ k h. less (slice_index (corners mesh.triangles) k) (mark_at width bytes at k) (entry_at width bytes at k) (decodes.indexes k (omega (arith, h, corner_total))))
+      ∙ sym (corners_list bytes))
 
   same_edge : (edge : Edge) → edge_of mesh edge ≡ edge_list bytes edge
   unfolding edge_list
   same_edge edge =
       fill_by_all (entry_at (index_width (vertices_in bytes)) bytes (edge_at bytes edge + 4)) (edge_of mesh edge) (number_at 4 bytes (edge_at bytes edge)) 0 (sym (decodes.edge_counts edge))
-        (λ k h. decodes.edges edge k (omega (arith, h, decodes.edge_counts edge)))
+      (λ k h. decodes.edges edge k (omega (arith, h, decodes.edge_counts edge)))
 
   pub same_mesh : mesh ≡ mesh_in bytes
   unfolding mesh_in

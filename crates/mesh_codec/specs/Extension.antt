@@ -1,6 +1,6 @@
 -- Extensions, up to the end of a tile (quantized-mesh-1.0, extensions): an id of one byte, a length of four
 -- bytes, and that many bytes.
-use Rattle.std.specs.Prelude.{◌≡◌, ℕ, zero, suc, ◌+◌, ◌^◌, ◌<◌, nat_lt, List, [], ◌∷◌, ◌++◌, length, flat_map, slice_index, slice_range, if◌then◌else◌}
+use Rattle.std.specs.Prelude.{ℕ, zero, suc, ◌+◌, ◌^◌, ◌<◌, nat_lt, List, [], ◌∷◌, ◌++◌, length, slice_index, slice_range, if◌then◌else◌}
 use Rattle.byteorder.specs.Endian.{little_bytes}
 use Rattle.mesh_codec.specs.Number.{number_at}
 

@@ -1,5 +1,5 @@
 -- What is known of bytes that were read, and of iterators over them.
-use Rattle.std.specs.Prelude.{◌≡◌, ℕ, ℤ, pos, ◌+◌, ◌*◌, ◌≤◌, List, length, None}
+use Rattle.std.specs.Prelude.{◌≡◌, ℕ, pos, ◌+◌, ◌*◌, ◌≤◌, List, length, None}
 use Rattle.mesh_codec.specs.declared.codes.Codes.{Codes}
 use Rattle.mesh_codec.specs.declared.refusal.Array.TheVariants.{U, V, Height}
 use Rattle.mesh_codec.specs.Text.{index_width, index_data_at}

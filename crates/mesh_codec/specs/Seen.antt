@@ -1,5 +1,4 @@
 -- An extension by what its bytes are, apart from where they lie.
-use Rattle.std.specs.Prelude.{ℕ, List}
 use Rattle.mesh_codec.specs.declared.extensions.Extension.{Extension}
 use Rattle.mesh_codec.specs.Extension.{ExtensionData}
 

@@ -24,14 +24,20 @@ point_at bytes at = number_at 8 bytes at ∷ number_at 8 bytes (at + 8) ∷ numb
 
 unfoldable pub header_in : List ℕ → Header
 header_in bytes = record {
-  centre = point_at bytes 0; least = number_at 4 bytes 24; greatest = number_at 4 bytes 28;
-  sphere_centre = point_at bytes 32; radius = number_at 8 bytes 56; horizon = point_at bytes 64
+  centre = point_at bytes 0;
+  least = number_at 4 bytes 24;
+  greatest = number_at 4 bytes 28;
+  sphere_centre = point_at bytes 32;
+  radius = number_at 8 bytes 56;
+  horizon = point_at bytes 64;
 }
 
 -- a vertex, of so many
 abbrev pub vertex_at : List ℕ → ℕ → ℕ → Codes
 vertex_at bytes vertices k = record {
-  u = code_at bytes (array_at vertices U) k; v = code_at bytes (array_at vertices V) k; height = code_at bytes (array_at vertices Height) k
+  u = code_at bytes (array_at vertices U) k;
+  v = code_at bytes (array_at vertices V) k;
+  height = code_at bytes (array_at vertices Height) k;
 }
 
 unfoldable pub vertex_list : List ℕ → List Codes
@@ -63,8 +69,12 @@ extensions_in bytes = length (extension_list bytes)
 
 unfoldable pub mesh_in : List ℕ → Mesh
 mesh_in bytes = record {
-  vertices = vertex_list bytes; triangles = triangle_list bytes;
-  west = edge_list bytes West; south = edge_list bytes South; east = edge_list bytes East; north = edge_list bytes North
+  vertices = vertex_list bytes;
+  triangles = triangle_list bytes;
+  west = edge_list bytes West;
+  south = edge_list bytes South;
+  east = edge_list bytes East;
+  north = edge_list bytes North;
 }
 
 -- ---- by positions

@@ -1,6 +1,19 @@
 // The arrays of codes.
 ghost use Rattle.std.specs.Prelude.{
-    ◌≡◌, ℤ, pos, ◌+ℤ◌, ◌+◌, ◌-◌, ◌*◌, ◌^◌, ◌<◌, ◌≤◌, length, map, OnOk, IfSome
+  ◌≡◌,
+  ℤ,
+  pos,
+  ◌+ℤ◌,
+  ◌+◌,
+  ◌-◌,
+  ◌*◌,
+  ◌^◌,
+  ◌<◌,
+  ◌≤◌,
+  length,
+  map,
+  OnOk,
+  IfSome,
 };
 ghost use Rattle.std.specs.List.{range_with_len};
 ghost use Rattle.std.specs.Result.{result_err};

@@ -2,12 +2,11 @@
 ghost use Rattle.std.specs.Prelude.{◌≡◌, ◌+◌, ◌^◌, ◌<◌, ◌++◌, All, length, OnOk};
 ghost use Rattle.mesh_codec.specs.Mesh.{IsVertex, IsTriangle, edge_of, with_list};
 
-use terrain_base::NoMemory;
-
 use crate::edge_indexes::EdgeIndexes;
 use crate::triangles::Triangles;
 use crate::vertex_codes::VertexCodes;
 use crate::{CodeMesh, Edge};
+use terrain_base::NoMemory;
 
 /// Adds vertices.
 pub(crate) fn add_vertices(mesh: &mut CodeMesh, vertices: VertexCodes<'_>) -> Result<(), NoMemory>
@@ -35,7 +34,11 @@ pub(crate) fn add_triangles(mesh: &mut CodeMesh, triangles: Triangles<'_>) -> Re
 
 /// Adds vertices along an edge.
 #[tactic(auto, using(crate::proofs::Edges::edge_of_list, crate::proofs::Edges::with_list_again, crate::proofs::Edges::vertices_of_list))]
-pub(crate) fn add_list(mesh: &mut CodeMesh, edge: Edge, list: EdgeIndexes<'_>) -> Result<(), NoMemory>
+pub(crate) fn add_list(
+    mesh: &mut CodeMesh,
+    edge: Edge,
+    list: EdgeIndexes<'_>,
+) -> Result<(), NoMemory>
     requires in_range { All (λ vertex. vertex < length mesh.old.vertices) list }
     requires room { length (edge_of mesh.old edge) + length list < 2 ^ 32 }
     ensures { OnOk result (mesh.new ≡ with_list mesh.old edge (edge_of mesh.old edge ++ list.entry)) }

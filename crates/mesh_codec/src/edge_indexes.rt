@@ -5,12 +5,11 @@ ghost use Rattle.std.specs.Iterator.{YieldsFirst, item_count};
 ghost use Rattle.mesh_codec.specs.Good.{IsTile};
 ghost use Rattle.mesh_codec.specs.Tile.{edge_list};
 
-use std::marker::Model;
-
 use crate::Edge;
 use crate::index::entry;
 use crate::layout::{edge_start, vertex_number};
 use crate::number::long;
+use std::marker::Model;
 
 /// The vertices along an edge of a tile, read where they stand. It is seen as the list of those that are
 /// left.

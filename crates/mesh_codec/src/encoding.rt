@@ -1,20 +1,45 @@
 // A header and a mesh as the bytes of a tile.
 ghost use Rattle.std.specs.Prelude.{
-    ◌≡◌, ◌≢◌, ◌+◌, ◌-◌, ◌^◌, ◌<◌, ◌≤◌, ◌++◌, ◌∷◌, [], length, All, map, OnOk, IfOk
+  ◌≡◌,
+  ◌≢◌,
+  ◌+◌,
+  ◌-◌,
+  ◌^◌,
+  ◌<◌,
+  ◌≤◌,
+  ◌++◌,
+  ◌∷◌,
+  [],
+  length,
+  All,
+  map,
+  OnOk,
+  IfOk,
 };
 ghost use Rattle.byteorder.specs.Endian.{little_bytes};
 ghost use Rattle.mesh_codec.specs.Mesh.{IsVertex, IsTriangle, IsEdge, IsEncodable, corners, coordinate};
 ghost use Rattle.mesh_codec.specs.Text.{
-    point_text, header_text, zigzag, array_text, arrays_text, index_width, padding_text, mark_after,
-    AreWithinMark, indexes_text, triangles_text, edge_text, edges_text, tile_text
+  point_text,
+  header_text,
+  zigzag,
+  array_text,
+  arrays_text,
+  index_width,
+  padding_text,
+  mark_after,
+  AreWithinMark,
+  indexes_text,
+  triangles_text,
+  edge_text,
+  edges_text,
+  tile_text,
 };
-
-use std::alloc::Global;
-use terrain_base::{Indexes, NoMemory};
 
 use crate::layout::padding;
 use crate::number::{put_double, put_long, put_short};
 use crate::{Array, CodeMesh, Codes, Edge, Header};
+use std::alloc::Global;
+use terrain_base::{Indexes, NoMemory};
 
 /// Adds a point.
 fn put_point(out: &mut Vec<u8>, point: &[u64]) -> Result<(), NoMemory>
@@ -56,7 +81,11 @@ fn word_of(before: u16, code: u16) -> u16
     requires code { code ≤ 32767 }
     ensures { result ≡ zigzag before code }
 {
-    if before <= code { 2 * (code - before) } else { 2 * (before - code) - 1 }
+    if before <= code {
+        2 * (code - before)
+    } else {
+        2 * (before - code) - 1
+    }
 }
 
 /// Adds an array.
@@ -81,7 +110,11 @@ fn put_code(out: &mut Vec<u8>, vertices: u32, code: u32) -> Result<(), NoMemory>
     requires reaches_back { vertices ≢ 65536 }
     ensures { OnOk result (out.new.items ≡ out.old.items ++ little_bytes (index_width vertices) code) }
 {
-    if vertices > 65536 { put_long(out, code) } else { put_short(out, code as u16) }
+    if vertices > 65536 {
+        put_long(out, code)
+    } else {
+        put_short(out, code as u16)
+    }
 }
 
 /// Adds an index as the mark less it, and gives the mark behind it.

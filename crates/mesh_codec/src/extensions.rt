@@ -1,14 +1,13 @@
 // The extensions of a tile, read where they stand.
-ghost use Rattle.std.specs.Prelude.{◌≡◌, ◌+◌, ◌<◌, ◌≤◌, ◌^◌, length, slice_index, slice_range};
+ghost use Rattle.std.specs.Prelude.{◌≡◌, ◌+◌, ◌^◌, ◌<◌, ◌≤◌, length, slice_index, slice_range};
 ghost use Rattle.std.specs.Iterator.{YieldsFirstBy, item_count};
 ghost use Rattle.mesh_codec.specs.Good.{IsTile};
 ghost use Rattle.mesh_codec.specs.Tile.{extension_list};
 ghost use Rattle.mesh_codec.specs.Seen.{seen};
 
-use std::marker::Model;
-
 use crate::extension::end_of;
 use crate::layout::extensions_start;
+use std::marker::Model;
 
 /// An extension of a tile, where it lies.
 #[derive(Clone, Copy)]
@@ -24,7 +23,10 @@ fn extension_of(bytes: &[u8], at: usize, end: usize) -> Extension<'_>
     requires within { end ≤ length bytes.now }
     ensures { seen result ≡ record { id = slice_index bytes.now at; bytes = slice_range bytes.now (at + 5) end } }
 {
-    Extension { id: bytes[at], bytes: &bytes[at + 5..end] }
+    Extension {
+        id: bytes[at],
+        bytes: &bytes[at + 5..end],
+    }
 }
 
 /// The extensions of a tile, read where they stand. It is seen as the list of those that are left.
@@ -50,10 +52,13 @@ impl<'a> Extensions<'a> {
     /// The extensions of a tile.
     pub(crate) fn of(bytes: &'a [u8]) -> Extensions<'a>
         requires { IsTile bytes.now }
-        ensures list { result ≡ extension_list bytes.now }
-        ensures few { length result < 2 ^ 63 }
+        ensures extensions { result ≡ extension_list bytes.now }
+        ensures few { length result < 2 ^ 64 }
     {
-        Extensions { bytes, at: extensions_start(bytes) }
+        Extensions {
+            bytes,
+            at: extensions_start(bytes),
+        }
     }
 }
 

@@ -27,7 +27,11 @@ fn point(bytes: &[u8], at: usize) -> [u64; 3]
     requires { at + 24 ≤ length bytes.now }
     ensures { result ≡ point_at bytes.now at }
 {
-    [double(bytes, at), double(bytes, at + 8), double(bytes, at + 16)]
+    [
+        double(bytes, at),
+        double(bytes, at + 8),
+        double(bytes, at + 16),
+    ]
 }
 
 /// The header at the front of a tile.

@@ -1,6 +1,21 @@
 // Indexes: the triangles by high water mark, and the edge lists.
 ghost use Rattle.std.specs.Prelude.{
-    ◌≡◌, ◌==◌, ◌+◌, ◌-◌, ◌*◌, ◌^◌, ◌<◌, ◌≤◌, length, map, OnOk, IfOk, IfSome, None, Some, if◌then◌else◌
+  ◌≡◌,
+  ◌==◌,
+  ◌+◌,
+  ◌-◌,
+  ◌*◌,
+  ◌^◌,
+  ◌<◌,
+  ◌≤◌,
+  length,
+  map,
+  OnOk,
+  IfOk,
+  IfSome,
+  None,
+  Some,
+  if◌then◌else◌,
 };
 ghost use Rattle.std.specs.List.{range_with_len};
 ghost use Rattle.std.specs.Result.{result_err};
@@ -9,7 +24,11 @@ ghost use Rattle.mesh_codec.specs.Number.{number_at};
 ghost use Rattle.mesh_codec.specs.HighWater.{entry_at, is_no_vertex};
 ghost use Rattle.mesh_codec.specs.Layout.{list_end};
 ghost use Rattle.mesh_codec.specs.Refusal.{
-    first_of, index_condition, triangle_conditions, entry_condition, edge_conditions
+  first_of,
+  index_condition,
+  triangle_conditions,
+  entry_condition,
+  edge_conditions,
 };
 
 use crate::layout::index_bytes;
@@ -23,7 +42,11 @@ pub(crate) fn entry(bytes: &[u8], vertices: u32, at: usize, k: u64) -> u32
     requires { at + index_width vertices * k + index_width vertices ≤ length bytes.now }
     ensures { result ≡ entry_at (index_width vertices) bytes.now at k }
 {
-    if vertices > 65536 { long(bytes, at + 4 * k as usize) } else { u32::from(short(bytes, at + 2 * k as usize)) }
+    if vertices > 65536 {
+        long(bytes, at + 4 * k as usize)
+    } else {
+        u32::from(short(bytes, at + 2 * k as usize))
+    }
 }
 
 /// The mark behind an index, if it is one of so many vertices.
@@ -75,7 +98,13 @@ pub(crate) fn read_triangles(bytes: &[u8], vertices: u32, at: usize) -> Result<u
 
 /// Refuses the first index of an edge's list that is no vertex.
 #[tactic(auto, using(crate::proofs::First::map_next, crate::proofs::First::map_found, crate::proofs::HighWaters::entry_within))]
-fn read_entries(bytes: &[u8], vertices: u32, edge: Edge, at: usize, count: u32) -> Result<(), TileRefusal>
+fn read_entries(
+    bytes: &[u8],
+    vertices: u32,
+    edge: Edge,
+    at: usize,
+    count: u32,
+) -> Result<(), TileRefusal>
     requires { at + index_width vertices * count ≤ length bytes.now }
     ensures { result_err result ≡ first_of (map (entry_condition bytes.now vertices edge at) (range_with_len 0 count)) }
 {
@@ -89,7 +118,12 @@ fn read_entries(bytes: &[u8], vertices: u32, edge: Edge, at: usize, count: u32) 
 
 /// Refuses by the list of an edge that begins at an offset, or gives where it ends.
 #[tactic(auto, unfolding(crate::specs::Refusal::edge_conditions, crate::specs::Layout::list_end))]
-pub(crate) fn read_edge(bytes: &[u8], vertices: u32, edge: Edge, at: usize) -> Result<usize, TileRefusal>
+pub(crate) fn read_edge(
+    bytes: &[u8],
+    vertices: u32,
+    edge: Edge,
+    at: usize,
+) -> Result<usize, TileRefusal>
     requires { at < 2 ^ 40 }
     ensures refusal { result_err result ≡ first_of (edge_conditions bytes.now vertices edge at) }
     ensures end { IfOk result (λ end. end ≡ list_end (index_width vertices) bytes.now at) }

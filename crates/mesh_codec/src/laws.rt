@@ -17,8 +17,7 @@ pub fn one_tile()
     ensures header { (bytes : List ℕ) (header : Header) (mesh : Mesh) (extensions : List ExtensionData) → Decodes bytes header mesh extensions → header ≡ header_in bytes }
     ensures mesh { (bytes : List ℕ) (header : Header) (mesh : Mesh) (extensions : List ExtensionData) → Decodes bytes header mesh extensions → mesh ≡ mesh_in bytes }
     ensures extensions { (bytes : List ℕ) (header : Header) (mesh : Mesh) (extensions : List ExtensionData) → Decodes bytes header mesh extensions → extensions ≡ extension_list bytes }
-{
-}
+{}
 
 /// Bytes get a refusal exactly where its condition holds and none before it does. Where they begin as a gzip
 /// file does, they get `Compressed` in its place.
@@ -27,11 +26,9 @@ pub fn first_refusal()
     ensures only { (bytes : List ℕ) (refusal : TileRefusal) → IsFirst (conditions_of bytes) refusal → first_of (conditions_of bytes) ≡ Some refusal }
     ensures plain { (bytes : List ℕ) → is_gzip bytes ≡ false → tile_refusal_of bytes ≡ first_of (conditions_of bytes) }
     ensures compressed { (bytes : List ℕ) (refusal : TileRefusal) → is_gzip bytes ≡ true → first_of (conditions_of bytes) ≡ Some refusal → tile_refusal_of bytes ≡ Some TileRefusal.Compressed }
-{
-}
+{}
 
 /// The spelling of a header and a mesh decodes to them, without an extension.
 pub fn text_decodes()
     ensures { (header : Header) (mesh : Mesh) → IsHeader header → IsMesh mesh → IsEncodable mesh → Decodes (tile_text header mesh) header mesh [] }
-{
-}
+{}

@@ -2,8 +2,16 @@
 ghost use Rattle.std.specs.Prelude.{◌≡◌, ◌+◌, ◌*◌, ◌^◌, ◌<◌, ◌≤◌, length};
 ghost use Rattle.mesh_codec.specs.Text.{index_width, index_data_at, padding_text};
 ghost use Rattle.mesh_codec.specs.Layout.{
-    vertices_in, triangles_in, array_at, list_end, west_at, south_at, east_at, north_at, extensions_at,
-    edge_at
+  vertices_in,
+  triangles_in,
+  array_at,
+  list_end,
+  west_at,
+  south_at,
+  east_at,
+  north_at,
+  extensions_at,
+  edge_at,
 };
 ghost use Rattle.mesh_codec.specs.Good.{IsTile};
 
@@ -31,7 +39,11 @@ pub(crate) fn index_bytes(vertices: u32, count: u64) -> usize
     ensures bytes { result ≡ index_width vertices * count }
     ensures few { result ≤ 4 * count }
 {
-    if vertices > 65536 { 4 * count as usize } else { 2 * count as usize }
+    if vertices > 65536 {
+        4 * count as usize
+    } else {
+        2 * count as usize
+    }
 }
 
 /// Where the index data begin, behind the arrays and the padding.

@@ -17,6 +17,8 @@ mod mesh;
 mod number;
 mod part;
 mod refusal;
+#[cfg(test)]
+mod tests;
 mod tile;
 mod triangles;
 mod vertex_codes;

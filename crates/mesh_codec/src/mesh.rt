@@ -2,11 +2,10 @@
 ghost use Rattle.std.specs.Prelude.{◌≡◌, ◌+◌, ◌-◌, ◌^◌, ◌<◌, ◌≤◌, ◌++◌, ◌∷◌, [], length, All, OnOk, OnErr, slice_get, Some};
 ghost use Rattle.mesh_codec.specs.Mesh.{IsVertex, IsTriangle, edge_of, empty_mesh, with_edge};
 
+use crate::{Codes, Edge};
 use std::alloc::Global;
 use std::marker::Model;
 use terrain_base::{Indexes, NoMemory};
-
-use crate::{Codes, Edge};
 
 /// The vertices, triangles and edge lists of a tile. Each vertex has codes from 0 to 32767, and each index
 /// is below the number of vertices.
@@ -25,19 +24,23 @@ impl Model for CodeMesh {
 
     ghost Value = { Mesh };
 
-    ghost view = {
-        λ m. record {
-            vertices = m.vertices.items; triangles = m.triangles.items;
-            west = m.west.items; south = m.south.items; east = m.east.items; north = m.north.items
-        }
-    };
+    ghost view = { λ m. record {
+      vertices = m.vertices.items;
+      triangles = m.triangles.items;
+      west = m.west.items;
+      south = m.south.items;
+      east = m.east.items;
+      north = m.north.items;
+    } };
 
-    ghost invariant = {
-        λ m. IsMesh (record {
-            vertices = m.vertices.items; triangles = m.triangles.items;
-            west = m.west.items; south = m.south.items; east = m.east.items; north = m.north.items
-        })
-    };
+    ghost invariant = { λ m. IsMesh (record {
+      vertices = m.vertices.items;
+      triangles = m.triangles.items;
+      west = m.west.items;
+      south = m.south.items;
+      east = m.east.items;
+      north = m.north.items;
+    }) };
 }
 
 impl CodeMesh {

@@ -12,7 +12,10 @@ pub(crate) fn read_part(bytes: &[u8], at: usize, need: usize) -> Result<(), Tile
     ensures fits { OnOk result (at + need ≤ length bytes.now) }
 {
     if bytes.len() < at + need {
-        return Err(TileRefusal::Truncated { at: at as u64, need: need as u64 });
+        return Err(TileRefusal::Truncated {
+            at: at as u64,
+            need: need as u64,
+        });
     }
     Ok(())
 }

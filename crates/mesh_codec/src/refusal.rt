@@ -1,7 +1,6 @@
 // Why bytes are no tile.
-use thiserror::Error;
-
 use crate::Edge;
+use thiserror::Error;
 
 /// An array of codes, in the order of the arrays.
 #[derive(Clone, Copy, Debug, PartialEq, Eq)]

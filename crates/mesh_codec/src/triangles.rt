@@ -8,11 +8,10 @@ ghost use Rattle.mesh_codec.specs.Layout.{vertices_in, triangles_in};
 ghost use Rattle.mesh_codec.specs.Good.{IsTile, IsMarkedTo};
 ghost use Rattle.mesh_codec.specs.Tile.{triangle_list};
 
-use std::marker::Model;
-use terrain_base::Indexes;
-
 use crate::index::entry;
 use crate::layout::{index_data, triangle_number, vertex_number};
+use std::marker::Model;
+use terrain_base::Indexes;
 
 /// The triangles of a tile, decoded where they stand. It is seen as the list of those that are left.
 #[derive(Drop)]
@@ -55,7 +54,10 @@ fn corner_at(bytes: &[u8], vertices: u32, k: u64, mark: u32) -> Corner
     ensures read { IsMarkedTo bytes.now vertices (k + 1) result.mark }
 {
     let code = entry(bytes, vertices, index_data(vertices) + 4, k);
-    Corner { index: mark - code, mark: if code == 0 { mark + 1 } else { mark } }
+    Corner {
+        index: mark - code,
+        mark: if code == 0 { mark + 1 } else { mark },
+    }
 }
 
 impl<'a> Triangles<'a> {
@@ -93,6 +95,10 @@ impl<'a> Iterator for Triangles<'a> {
         let c = corner_at(self.bytes, self.vertices, k + 2, b.mark);
         self.next += 1;
         self.mark = c.mark;
-        Some(Indexes { a: a.index, b: b.index, c: c.index })
+        Some(Indexes {
+            a: a.index,
+            b: b.index,
+            c: c.index,
+        })
     }
 }

@@ -7,12 +7,11 @@ ghost use Rattle.mesh_codec.specs.Layout.{vertices_in, array_at};
 ghost use Rattle.mesh_codec.specs.Good.{IsTile, IsReadTo};
 ghost use Rattle.mesh_codec.specs.Tile.{vertex_list};
 
-use std::marker::Model;
-
 use crate::array::code_after;
 use crate::layout::{array_start, vertex_number};
 use crate::number::short;
 use crate::{Array, Codes};
+use std::marker::Model;
 
 /// The vertices of a tile, decoded where they stand. It is seen as the list of those that are left.
 #[derive(Drop)]
@@ -46,7 +45,11 @@ fn next_code(bytes: &[u8], vertices: u32, array: Array, k: u32, before: u16) -> 
     ensures code { result ≡ code_at bytes.now (array_at vertices array) k }
     ensures read { IsReadTo bytes.now (array_at vertices array) (k + 1) result }
 {
-    code_after(before, short(bytes, array_start(vertices, array) + 2 * k as usize)).unwrap()
+    code_after(
+        before,
+        short(bytes, array_start(vertices, array) + 2 * k as usize),
+    )
+    .unwrap()
 }
 
 impl<'a> VertexCodes<'a> {
@@ -61,7 +64,11 @@ impl<'a> VertexCodes<'a> {
             bytes,
             vertices: vertex_number(bytes),
             next: 0,
-            before: Codes { u: 0, v: 0, height: 0 },
+            before: Codes {
+                u: 0,
+                v: 0,
+                height: 0,
+            },
         }
     }
 }
@@ -77,9 +84,27 @@ impl<'a> Iterator for VertexCodes<'a> {
         if self.next == self.vertices {
             return None;
         }
-        let u = next_code(self.bytes, self.vertices, Array::U, self.next, self.before.u);
-        let v = next_code(self.bytes, self.vertices, Array::V, self.next, self.before.v);
-        let height = next_code(self.bytes, self.vertices, Array::Height, self.next, self.before.height);
+        let u = next_code(
+            self.bytes,
+            self.vertices,
+            Array::U,
+            self.next,
+            self.before.u,
+        );
+        let v = next_code(
+            self.bytes,
+            self.vertices,
+            Array::V,
+            self.next,
+            self.before.v,
+        );
+        let height = next_code(
+            self.bytes,
+            self.vertices,
+            Array::Height,
+            self.next,
+            self.before.height,
+        );
         let codes = Codes { u, v, height };
         self.next += 1;
         self.before = codes;

@@ -5,12 +5,15 @@ ghost use Rattle.mesh_codec.specs.Mesh.{IsVertex, IsTriangle, Mesh};
 ghost use Rattle.mesh_codec.specs.Layout.{vertices_in, triangles_in};
 ghost use Rattle.mesh_codec.specs.Refusal.{tile_refusal_of};
 ghost use Rattle.mesh_codec.specs.Tile.{
-    Decodes, IsSomeTile, header_in, vertex_list, triangle_list, edge_list, extension_list, mesh_in
+  Decodes,
+  IsSomeTile,
+  header_in,
+  vertex_list,
+  triangle_list,
+  edge_list,
+  extension_list,
+  mesh_in,
 };
-
-use std::alloc::Global;
-use std::marker::Model;
-use terrain_base::NoMemory;
 
 use crate::building::{add_list, add_triangles, add_vertices};
 use crate::edge_indexes::EdgeIndexes;
@@ -21,6 +24,9 @@ use crate::tile::read_tile;
 use crate::triangles::Triangles;
 use crate::vertex_codes::VertexCodes;
 use crate::{CodeMesh, Edge, Header, TileRefusal};
+use std::alloc::Global;
+use std::marker::Model;
+use terrain_base::NoMemory;
 
 /// A tile, read where its bytes lie. It is seen as its bytes.
 #[derive(Drop)]
@@ -44,9 +50,7 @@ impl<'a> TileView<'a> {
     pub fn read(bytes: &'a [u8]) -> Result<TileView<'a>, TileRefusal>
         ensures ok { IsOk result ↔ IsSomeTile bytes.now }
         ensures view { IfOk result (λ view. view ≡ bytes.now) }
-        ensures tile {
-            OnOk result (Decodes bytes.now (header_in bytes.now) (mesh_in bytes.now) (extension_list bytes.now))
-        }
+        ensures tile { OnOk result (Decodes bytes.now (header_in bytes.now) (mesh_in bytes.now) (extension_list bytes.now)) }
         // It is the first whose condition holds, and there is none where the bytes are a tile.
         ensures refusal { result_err result ≡ tile_refusal_of bytes.now }
     {
@@ -106,8 +110,8 @@ impl<'a> TileView<'a> {
 
     /// The extensions.
     pub fn extensions(&self) -> Extensions<'a>
-        ensures list { result ≡ extension_list self.now }
-        ensures few { length result < 2 ^ 63 }
+        ensures extensions { result ≡ extension_list self.now }
+        ensures few { length result < 2 ^ 64 }
     {
         Extensions::of(self.bytes)
     }

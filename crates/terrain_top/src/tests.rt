@@ -225,8 +225,16 @@ fn absent_and_long_files_and_other_words_are_refused(rt: HostRuntime) -> Result<
             "refused F2 too long long limit 33554432\n",
             Status::Refused,
         ),
-        (words(alloc, &[".", "audit", "absent.terrain"])?, "refused F1 absent absent.terrain\n", Status::Refused),
-        (words(alloc, &[".", "audit", "long"])?, "refused F2 too long long limit 16777216\n", Status::Refused),
+        (
+            words(alloc, &[".", "audit", "absent.terrain"])?,
+            "refused F1 absent absent.terrain\n",
+            Status::Refused,
+        ),
+        (
+            words(alloc, &[".", "audit", "long"])?,
+            "refused F2 too long long limit 16777216\n",
+            Status::Refused,
+        ),
         (words(alloc, &[])?, usage, Status::Usage),
         (words(alloc, &["."])?, usage, Status::Usage),
         (words(alloc, &[".", "cell"])?, usage, Status::Usage),
@@ -303,14 +311,18 @@ fn words_of_16(bytes: &mut Vec<u8>, words: &[u16]) -> Result<(), AllocError> {
 fn flat_tile(alloc: Global) -> Result<Vec<u8>, AllocError> {
     let mut bytes = vec![in alloc; 0u8; 88]?;
     bytes.extend_from_slice(&[9, 0, 0, 0])?;
-    words_of_16(&mut bytes, &[0, 64540, 63547, 64542, 993, 994, 65533, 992, 31774])?;
+    words_of_16(
+        &mut bytes,
+        &[0, 64540, 63547, 64542, 993, 994, 65533, 992, 31774],
+    )?;
     words_of_16(&mut bytes, &[0, 992, 0, 991, 64540, 994, 0, 993, 31773])?;
     words_of_16(&mut bytes, &[0; 9])?;
     bytes.extend_from_slice(&[12, 0, 0, 0])?;
     words_of_16(
         &mut bytes,
         &[
-            0, 0, 0, 3, 0, 3, 1, 0, 4, 2, 0, 2, 0, 0, 4, 2, 4, 3, 8, 6, 1, 8, 1, 2, 0, 7, 8, 1, 8, 5, 1, 5, 2, 1, 2, 7,
+            0, 0, 0, 3, 0, 3, 1, 0, 4, 2, 0, 2, 0, 0, 4, 2, 4, 3, 8, 6, 1, 8, 1, 2, 0, 7, 8, 1, 8,
+            5, 1, 5, 2, 1, 2, 7,
         ],
     )?;
     for pair in [[0, 6], [0, 3], [3, 5], [6, 5]] {
@@ -344,11 +356,27 @@ fn tiles_are_sized_or_refused(rt: HostRuntime) -> Result<(), Stopped> {
     large.resize(393_336, 0)?;
     let table = [
         (flat, "vertices 9 triangles 12 extensions 0\n", Status::Done),
-        (extended, "vertices 9 triangles 12 extensions 1\n", Status::Done),
+        (
+            extended,
+            "vertices 9 triangles 12 extensions 1\n",
+            Status::Done,
+        ),
         (cut, "refused M5 extension at 254\n", Status::Refused),
-        (large, "vertices 65537 triangles 0 extensions 0\n", Status::Done),
-        ([0x1F, 0x8B, 8, 0].to_vec(alloc)?, "refused M6 compressed\n", Status::Refused),
-        (vec![in alloc; 0u8; 87]?, "refused M1 truncated at 0 need 88\n", Status::Refused),
+        (
+            large,
+            "vertices 65537 triangles 0 extensions 0\n",
+            Status::Done,
+        ),
+        (
+            [0x1F, 0x8B, 8, 0].to_vec(alloc)?,
+            "refused M6 compressed\n",
+            Status::Refused,
+        ),
+        (
+            vec![in alloc; 0u8; 87]?,
+            "refused M1 truncated at 0 need 88\n",
+            Status::Refused,
+        ),
     ];
     for (bytes, line, status) in &table {
         let mut out = SureSink::new(alloc);

@@ -10,7 +10,7 @@ returns-in_default c =
 pub loop-k-preserved : goal.loop-k-preserved
 loop-k-preserved c = record {
   first = codes_next c.args.bytes.now c.args.array c.args.at c.loop-k.k c.args.count c.loop-k.code c.short.result c.loop-k-test.true c.loop-k.invariant.sum c.short.ensures c.in-Some.next (sym c.in-Some.ensures.code)
-    ∙ c.loop-k.invariant.first;
+      ∙ c.loop-k.invariant.first;
   sum = sum_is c.args.bytes.now c.args.array c.args.at c.loop-k.k c.args.count c.loop-k.code c.short.result c.loop-k-test.true c.loop-k.invariant.sum c.short.ensures c.in-Some.next (sym c.in-Some.ensures.code);
-  small = c.in-Some.ensures.small
+  small = c.in-Some.ensures.small;
 }

@@ -8,5 +8,5 @@ abbrev pub invariant-loop-k : goal.invariant-loop-k
 invariant-loop-k l = record {
   first : first_of (map (code_condition l.bytes l.array l.at) (range_with_len l.k (l.count - l.k))) ≡ first_of (map (code_condition l.bytes l.array l.at) (range_with_len 0 l.count));
   sum : sum_before l.bytes l.at l.k ≡ pos l.code;
-  small : l.code ≤ 32767
+  small : l.code ≤ 32767;
 }

@@ -7,5 +7,5 @@ invariant-loop-triangle l = record {
   same : l.mesh ≡ record l.fn.mesh { triangles = l.mesh.triangles };
   rest : l.mesh.triangles ++ l.triangle-iterator ≡ l.fn.mesh.triangles ++ l.fn.triangles;
   in_range : All (IsTriangle (length l.fn.mesh.vertices)) l.triangle-iterator;
-  room : length l.mesh.triangles + length l.triangle-iterator < 2 ^ 32
+  room : length l.mesh.triangles + length l.triangle-iterator < 2 ^ 32;
 }

@@ -7,5 +7,5 @@ invariant-loop-codes l = record {
   same : l.mesh ≡ record l.fn.mesh { vertices = l.mesh.vertices };
   rest : l.mesh.vertices ++ l.codes-iterator ≡ l.fn.mesh.vertices ++ l.fn.vertices;
   in_range : All IsVertex l.codes-iterator;
-  room : length l.mesh.vertices + length l.codes-iterator < 2 ^ 32
+  room : length l.mesh.vertices + length l.codes-iterator < 2 ^ 32;
 }

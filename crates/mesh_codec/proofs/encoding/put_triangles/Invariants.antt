@@ -7,5 +7,5 @@ abbrev pub invariant-loop-triangle : goal.invariant-loop-triangle
 invariant-loop-triangle l = record {
   rest : l.out.items ++ indexes_text (index_width l.vertices) l.mark (corners (drop l.triangle-index l.triangles)) ≡ l.fn.out.items ++ indexes_text (index_width l.vertices) 0 (corners l.triangles);
   within : AreWithinMark l.mark (corners (drop l.triangle-index l.triangles));
-  few : l.mark ≤ l.vertices
+  few : l.mark ≤ l.vertices;
 }

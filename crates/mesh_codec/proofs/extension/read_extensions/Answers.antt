@@ -1,4 +1,4 @@
-use Rattle.std.proofs.Common.{◌≡◌, ◌≤◌, arith, length}
+use Rattle.std.proofs.Common.{arith, length}
 use Rattle.mesh_codec.specs.Extension.{extension_end}
 use Rattle.mesh_codec.proofs.ExtensionSteps.{end_beyond, end_is}
 use Rattle.mesh_codec.proofs.extension.read_extensions.Goals as goal

@@ -5,7 +5,7 @@ use Rattle.mesh_codec.proofs.extension.read_extensions.Given as goal
 abbrev pub invariant-loop-at : goal.invariant-loop-at
 invariant-loop-at l = record {
   within : l.at ≤ length l.bytes;
-  first : first_of (extension_conditions l.bytes l.at) ≡ first_of (extension_conditions l.bytes l.start)
+  first : first_of (extension_conditions l.bytes l.at) ≡ first_of (extension_conditions l.bytes l.start);
 }
 
 abbrev pub decreases-loop-at : goal.decreases-loop-at

@@ -14,7 +14,7 @@ returns-in_default c =
 pub loop-k-preserved : goal.loop-k-preserved
 loop-k-preserved c = record {
   first = indexes_next c.args.bytes.now c.args.vertices c.args.at c.loop-k.k c.args.count c.loop-k.mark c.entry.result c.loop-k-test.true c.loop-k.invariant.mark c.entry.ensures c.in-Some.next c.in-Some.ensures.mark
-    ∙ c.loop-k.invariant.first;
+      ∙ c.loop-k.invariant.first;
   mark = mark_is c.args.bytes.now c.args.vertices c.args.at c.loop-k.k c.args.count c.loop-k.mark c.entry.result c.loop-k-test.true c.loop-k.invariant.mark c.entry.ensures c.in-Some.next c.in-Some.ensures.mark;
-  few = c.in-Some.ensures.few
+  few = c.in-Some.ensures.few;
 }

@@ -9,5 +9,5 @@ abbrev pub invariant-loop-k : goal.invariant-loop-k
 invariant-loop-k l = record {
   first : first_of (map (index_condition l.bytes l.vertices l.at) (range_with_len l.k (l.count - l.k))) ≡ first_of (map (index_condition l.bytes l.vertices l.at) (range_with_len 0 l.count));
   mark : mark_at (index_width l.vertices) l.bytes l.at l.k ≡ l.mark;
-  few : l.mark ≤ l.vertices
+  few : l.mark ≤ l.vertices;
 }

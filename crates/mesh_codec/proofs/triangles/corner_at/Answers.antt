@@ -1,4 +1,4 @@
-use Rattle.std.proofs.Common.{◌≡◌, ◌+◌, ◌≤◌, refl, rules, arith}
+use Rattle.std.proofs.Common.{◌+◌, ◌≤◌, refl, rules, arith}
 use Rattle.mesh_codec.proofs.HighWaters.{then_is, else_is}
 use Rattle.mesh_codec.proofs.Places.{corner_fits, corner_within, corner_here, marked_next}
 use Rattle.mesh_codec.proofs.triangles.corner_at.Goals as goal
@@ -27,7 +27,7 @@ pub returns-then-code-eq0-clause-read : goal.returns-then-code-eq0-clause-read
 returns-then-code-eq0-clause-read c =
     let code = rw c.index_data.ensures.offset at c.entry-code.ensures in
     marked_next c.args.bytes.now c.args.vertices c.args.k c.args.mark c.requires.tile c.requires.count c.requires.place c.requires.before c.entry-code.result (c.args.mark + 1) code
-      (then_is c.entry-code.result (c.args.mark + 1) c.args.mark c.if-code-eq0.true)
+    (then_is c.entry-code.result (c.args.mark + 1) c.args.mark c.if-code-eq0.true)
 
 pub returns-else-code-eq0-clause-index : goal.returns-else-code-eq0-clause-index
 returns-else-code-eq0-clause-index c =
@@ -38,4 +38,4 @@ pub returns-else-code-eq0-clause-read : goal.returns-else-code-eq0-clause-read
 returns-else-code-eq0-clause-read c =
     let code = rw c.index_data.ensures.offset at c.entry-code.ensures in
     marked_next c.args.bytes.now c.args.vertices c.args.k c.args.mark c.requires.tile c.requires.count c.requires.place c.requires.before c.entry-code.result c.args.mark code
-      (else_is c.entry-code.result (c.args.mark + 1) c.args.mark c.if-code-eq0.false)
+    (else_is c.entry-code.result (c.args.mark + 1) c.args.mark c.if-code-eq0.false)

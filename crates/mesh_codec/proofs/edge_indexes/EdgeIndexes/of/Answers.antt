@@ -1,4 +1,4 @@
-use Rattle.std.proofs.Common.{◌+◌, ◌≤◌, length, rules, arith}
+use Rattle.std.proofs.Common.{◌+◌, ◌≤◌, length, rules}
 use Rattle.mesh_codec.proofs.Lists.{few_of}
 use Rattle.mesh_codec.proofs.Places.{edge_counted, edge_read, edge_list_is, edge_in_range}
 use Rattle.mesh_codec.proofs.edge_indexes.EdgeIndexes.of.Goals as goal

@@ -1,4 +1,4 @@
-use Rattle.std.proofs.Common.{◌≡◌, ◌+◌, ◌-◌, ◌<◌, ◌∷◌, map, sym, ap, ◌∙◌, arith}
+use Rattle.std.proofs.Common.{◌+◌, ◌-◌, ◌<◌, map, sym, ◌∙◌, arith}
 use Rattle.std.specs.List.{range_with_len}
 use Rattle.mesh_codec.specs.Text.{index_width}
 use Rattle.mesh_codec.specs.HighWater.{entry_at}
@@ -17,8 +17,12 @@ returns-clause-goes c =
     let s = c.self.inside in
     let early : s.next < s.count = omega (arith, c.if-self.false, c.self.invariant.within) in
     record {
-      on = λ f. (tt, tt, shorter c.args.self.now (map (entry_at (index_width s.vertices) s.bytes.now s.at) (range_with_len (s.next + 1) (s.count - (s.next + 1)))) c.entry-index.result
-        (sym c.self.view_is ∙ entries_step s.bytes.now s.vertices s.at s.count s.next c.entry-index.result early c.entry-index.ensures));
+      on = λ f. (
+        tt,
+        tt,
+        shorter c.args.self.now (map (entry_at (index_width s.vertices) s.bytes.now s.at) (range_with_len (s.next + 1) (s.count - (s.next + 1)))) c.entry-index.result
+            (sym c.self.view_is ∙ entries_step s.bytes.now s.vertices s.at s.count s.next c.entry-index.result early c.entry-index.ensures),
+      );
       keeps = tt;
       rests = λ f. tt;
     }

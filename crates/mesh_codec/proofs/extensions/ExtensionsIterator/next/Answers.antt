@@ -1,6 +1,5 @@
-use Rattle.std.proofs.Common.{◌≡◌, ◌+◌, ◌<◌, ◌≤◌, length, refl, sym, ap, ◌∙◌, arith}
+use Rattle.std.proofs.Common.{◌<◌, length, sym, ◌∙◌, arith}
 use Rattle.mesh_codec.specs.Extension.{extension_end, extension_at, extensions_from}
-use Rattle.mesh_codec.specs.Refusal.{first_of, extension_conditions}
 use Rattle.mesh_codec.proofs.ExtensionSteps.{end_beyond, end_is, end_some, conditions_next, extension_fits, extensions_step, extensions_none}
 use Rattle.mesh_codec.proofs.Lists.{shorter}
 use Rattle.mesh_codec.proofs.extensions.ExtensionsIterator.next.Goals as goal
