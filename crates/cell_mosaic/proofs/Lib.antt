@@ -1,2 +1,4 @@
 pub mod Heaviest
 pub mod Means
+pub mod Spots
+pub mod SquaresAt

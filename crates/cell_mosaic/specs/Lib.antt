@@ -3,3 +3,5 @@ pub mod Candidates
 pub mod Cells
 pub mod Fault
 pub mod Source
+pub mod Spot
+pub mod Value

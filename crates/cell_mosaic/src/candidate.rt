@@ -1,5 +1,5 @@
 // The squares that have a place.
-ghost use Rattle.std.specs.Prelude.{◌≡◌, ◌+◌, ◌<◌, ◌≤◌, [], ◌++◌, length, slice_get, Some, if◌then◌else◌};
+ghost use Rattle.std.specs.Prelude.{◌≡◌, ◌+◌, ◌<◌, ◌≤◌, [], ◌++◌, length, slice_get, Some, ◌&&◌, if◌then◌else◌};
 ghost use Rattle.tms_tree.specs.Place.{IsPlace};
 ghost use Rattle.cell_mosaic.specs.Candidates.{squares_at, candidates_of};
 
@@ -15,14 +15,14 @@ pub struct SquareList {
 }
 
 impl Model for SquareList {
-    ghost use Rattle.std.specs.Prelude.{List, take, ◌≤◌};
+    ghost use Rattle.std.specs.Prelude.{List, take, length, ◌≡◌, ◌≤◌};
     ghost use Rattle.terrain_base.specs.declared.square.Square as square;
 
     ghost Value = { List square.Square };
 
     ghost view = { λ l. take l.count l.squares };
 
-    ghost invariant = { λ l. l.count ≤ 4 };
+    ghost invariant = { λ l. (l.count ≤ 4) × (length l.squares ≡ 4) };
 }
 
 impl SquareList {
@@ -67,6 +67,12 @@ impl SquareList {
     }
 }
 
+fn both(a: bool, b: bool) -> bool
+    ensures { result ≡ (a && b) }
+{
+    a && b
+}
+
 /// The squares whose closed square of one degree has the place, longitudes taken modulo 360 degrees: that
 /// of the whole degrees at or below it; where it lies on a meridian of whole degrees the one west of it;
 /// where it lies on such a parallel the one south of it; where on both the one south-west of it.
@@ -80,11 +86,11 @@ pub fn candidates(place: Place) -> SquareList
     let west = (lon + 359) % 360;
     let south = lat.saturating_sub(1);
     let on_meridian = east % place.d == 0;
-    let on_parallel = north % place.d == 0 && lat > 0;
+    let on_parallel = both(north % place.d == 0, lat > 0);
     let mut squares = SquareList::empty();
     squares.push_if(true, lon, lat);
     squares.push_if(on_meridian, west, lat);
     squares.push_if(on_parallel, lon, south);
-    squares.push_if(on_meridian && on_parallel, west, south);
+    squares.push_if(both(on_meridian, on_parallel), west, south);
     squares
 }

@@ -7,9 +7,12 @@ mod corner;
 mod fault;
 mod quad;
 mod source;
+mod spot;
+mod value;
 
 pub use blending::blend;
 pub use candidate::{SquareList, candidates};
 pub use fault::SourceFault;
 pub use quad::Quad;
 pub use source::PostSource;
+pub use value::cell_value;
