@@ -26,7 +26,7 @@ fn post_if<P: PostSource, S: Store>(
 ) -> Result<Post, SourceFault>
     requires known { IsSome (map.get (P.shapes src.old) square) }
     requires within { IfSome (map.get (P.shapes src.old) square) (λ level. IsTrue counts → (col < columns_of square level) × (row < rows_of level)) }
-    ensures post { (told : Cells) → P.cells src.old (S.holds store.old) ≡ Some told → IfOk result (λ post. IsTrue counts → post ≡ post_of told square col row) }
+    ensures post { (told : Cells) → P.cells src.old (S.holds store.old) ≡ Some told → IsTrue counts → IfOk result (λ post. post ≡ post_of told square col row) }
     ensures height { IfOk result IsPost }
     ensures sure { IsTrue (P.sure src.old) → IsOk result }
     ensures cause { HasCause (S.faults store.old) (S.faults store.new) result }
