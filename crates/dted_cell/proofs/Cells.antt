@@ -1,7 +1,6 @@
 -- The refusal of a file, by its parts.
-use Rattle.std.proofs.Common.{◌≡◌, ℕ, List, Option, Some, None, refl, ap, ◌∙◌}
+use Rattle.std.proofs.Common.{◌≡◌, ℕ, List}
 use Rattle.std.specs.Option.{option_or}
-use Rattle.dted_cell.specs.declared.refusal.CellRefusal.{CellRefusal}
 use Rattle.dted_cell.specs.Cell.{columns_in, rows_in}
 use Rattle.dted_cell.specs.Refusal.{first_of, header_conditions, data_conditions, conditions_of, refusal_of}
 use Rattle.dted_cell.proofs.First.{first_of_append}

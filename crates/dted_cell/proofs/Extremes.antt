@@ -1,10 +1,10 @@
 -- The extremes are the least and the greatest of all heights.
-use Rattle.std.proofs.Common.{int_lt, ◌≡◌, ℕ, zero, suc, ◌+◌, ◌<◌, ◌≤◌, ◌⊎◌, Bool, ℤ, ◌≤ℤ◌, List, [], ◌∷◌, length, get_or, map, cond, Option, Some, None, IsNone, IfSome, ◌↔◌, refl, sym, ap, ◌∙◌, subst, inl, inr, arith}
+use Rattle.std.proofs.Common.{int_lt, ◌≡◌, ℕ, zero, suc, ◌<◌, ◌⊎◌, ℤ, ◌≤ℤ◌, List, [], ◌∷◌, length, get_or, Option, Some, None, IsNone, IfSome, ◌↔◌, refl, sym, ◌∙◌, subst, inl, inr, arith}
 use Rattle.std.proofs.lemmas.Int.{ints, clamps}
 use Rattle.std.proofs.lemmas.Bool.{cond_both}
 use Rattle.std.proofs.lemmas.List.FromFn.{length-map-range_with_len, get_or-map-range_with_len}
 use Rattle.std.specs.Int.{int_min, int_max}
-use Rattle.std.specs.List.{range_with_len, fold}
+use Rattle.std.specs.List.{fold}
 use Rattle.terrain_base.specs.declared.post.Post.{Post}
 use Rattle.terrain_base.specs.declared.post.Post.TheVariants.{Void, Metres}
 use Rattle.terrain_base.specs.declared.post.Extremes.{Extremes}
@@ -46,23 +46,23 @@ step : (Has : ℤ → Type 0) (o : Option Extremes) (post : Post) → AreExtreme
 unfolding AreExtremes
 step Has None Void are = λ z h. elim h [ inl h ↦ are z h | inr e ↦ cc ]
 step Has (Some e) Void are = record {
-    has_least = inl are.has_least;
-    has_greatest = inl are.has_greatest;
-    between = λ z h. elim h [ inl h ↦ are.between z h | inr e ↦ cc ];
-  }
+  has_least = inl are.has_least;
+  has_greatest = inl are.has_greatest;
+  between = λ z h. elim h [ inl h ↦ are.between z h | inr e ↦ cc ];
+}
 step Has None (Metres y) are = record {
-    has_least = inr refl;
-    has_greatest = inr refl;
-    between = λ z h. elim h [ inl h ↦ absurd (are z h) | inr e ↦ (let same : y ≡ z = cc in le_same y z same, let same : z ≡ y = cc in le_same z y same) ];
-  }
+  has_least = inr refl;
+  has_greatest = inr refl;
+  between = λ z h. elim h [ inl h ↦ absurd (are z h) | inr e ↦ (let same : y ≡ z = cc in le_same y z same, let same : z ≡ y = cc in le_same z y same) ];
+}
 step Has (Some e) (Metres y) are = record {
-    has_least = cond_both (int_lt y e.least) y e.least (λ z. Has z ⊎ (Metres y ≡ Metres z)) (λ t. inr refl) (λ t. inl are.has_least);
-    has_greatest = cond_both (int_lt y e.greatest) e.greatest y (λ z. Has z ⊎ (Metres y ≡ Metres z)) (λ t. inl are.has_greatest) (λ t. inr refl);
-    between = λ z h. elim h [
-      | inl h ↦ let old = are.between z h in (before_min e.least y z old.0, past_max e.greatest y z old.1)
-      | inr same ↦ let is : y ≡ z = cc in (min_at e.least y z is, max_at e.greatest y z is)
-    ];
-  }
+  has_least = cond_both (int_lt y e.least) y e.least (λ z. Has z ⊎ (Metres y ≡ Metres z)) (λ t. inr refl) (λ t. inl are.has_least);
+  has_greatest = cond_both (int_lt y e.greatest) e.greatest y (λ z. Has z ⊎ (Metres y ≡ Metres z)) (λ t. inl are.has_greatest) (λ t. inr refl);
+  between = λ z h. elim h [
+    | inl h ↦ let old = are.between z h in (before_min e.least y z old.0, past_max e.greatest y z old.1)
+    | inr same ↦ let is : y ≡ z = cc in (min_at e.least y z is, max_at e.greatest y z is)
+  ];
+}
 
 -- the same heights under another name
 along : (Has Other : ℤ → Type 0) (o : Option Extremes) → ((z : ℤ) → Has z → Other z) → ((z : ℤ) → Other z → Has z) → AreExtremes Has o → AreExtremes Other o
@@ -80,9 +80,9 @@ unfolding Among
 over_list Has o [] are = along Has (λ z. Has z ⊎ Among [] z) o (λ z h. inl h) (λ z h. elim h [ inl h ↦ h | inr none ↦ absurd none ]) are
 over_list Has o (post ∷ posts) are =
     along (λ z. (Has z ⊎ (post ≡ Metres z)) ⊎ Among posts z) (λ z. Has z ⊎ Among (post ∷ posts) z) (fold widened (widened o post) posts)
-      (λ z h. elim h [ inl old ↦ elim old [ inl h ↦ inl h | inr e ↦ inr (inl e) ] | inr later ↦ inr (inr later) ])
-      (λ z h. elim h [ inl h ↦ inl (inl h) | inr more ↦ elim more [ inl e ↦ inl (inr e) | inr later ↦ inr later ] ])
-      (over_list (λ z. Has z ⊎ (post ≡ Metres z)) (widened o post) posts (step Has o post are))
+    (λ z h. elim h [ inl old ↦ elim old [ inl h ↦ inl h | inr e ↦ inr (inl e) ] | inr later ↦ inr (inr later) ])
+    (λ z h. elim h [ inl h ↦ inl (inl h) | inr more ↦ elim more [ inl e ↦ inl (inr e) | inr later ↦ inr later ] ])
+    (over_list (λ z. Has z ⊎ (post ≡ Metres z)) (widened o post) posts (step Has o post are))
 
 AmongAll : List (List Post) → ℤ → Type 0
 AmongAll [] z = ⊥
@@ -93,9 +93,9 @@ unfolding AmongAll
 over_all Has o [] are = along Has (λ z. Has z ⊎ AmongAll [] z) o (λ z h. inl h) (λ z h. elim h [ inl h ↦ h | inr none ↦ absurd none ]) are
 over_all Has o (posts ∷ more) are =
     along (λ z. (Has z ⊎ Among posts z) ⊎ AmongAll more z) (λ z. Has z ⊎ AmongAll (posts ∷ more) z) (fold (fold widened) (fold widened o posts) more)
-      (λ z h. elim h [ inl old ↦ elim old [ inl h ↦ inl h | inr e ↦ inr (inl e) ] | inr later ↦ inr (inr later) ])
-      (λ z h. elim h [ inl h ↦ inl (inl h) | inr rest ↦ elim rest [ inl e ↦ inl (inr e) | inr later ↦ inr later ] ])
-      (over_all (λ z. Has z ⊎ Among posts z) (fold widened o posts) more (over_list Has o posts are))
+    (λ z h. elim h [ inl old ↦ elim old [ inl h ↦ inl h | inr e ↦ inr (inl e) ] | inr later ↦ inr (inr later) ])
+    (λ z h. elim h [ inl h ↦ inl (inl h) | inr rest ↦ elim rest [ inl e ↦ inl (inr e) | inr later ↦ inr later ] ])
+    (over_all (λ z. Has z ⊎ Among posts z) (fold widened o posts) more (over_list Has o posts are))
 
 -- ---- by place
 place_in : (posts : List Post) (z : ℤ) → Among posts z → (row : ℕ) × (row < length posts) × (get_or posts row Void ≡ Metres z)
@@ -150,9 +150,9 @@ extremes_are : (bytes : List ℕ) → AreExtremes (HasHeight bytes) (extremes_in
 unfolding extremes_in AreExtremes
 extremes_are bytes =
     along (λ z. ⊥ ⊎ AmongAll (posts_in bytes) z) (HasHeight bytes) (fold (fold widened) None (posts_in bytes))
-      (λ z h. elim h [ inl none ↦ absurd none | inr h ↦ to_height bytes z h ])
-      (λ z h. inr (from_height bytes z h))
-      (over_all (λ z. ⊥) None (posts_in bytes) (λ z none. none))
+    (λ z h. elim h [ inl none ↦ absurd none | inr h ↦ to_height bytes z h ])
+    (λ z h. inr (from_height bytes z h))
+    (over_all (λ z. ⊥) None (posts_in bytes) (λ z none. none))
 
 -- ---- what a call says of them
 void_by : (post : Post) → ((z : ℤ) → post ≡ Metres z → ⊥) → post ≡ Void

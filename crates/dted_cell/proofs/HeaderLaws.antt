@@ -1,19 +1,18 @@
 -- A header without a refusal is good, and the other way round.
-use Rattle.std.proofs.Common.{◌≡◌, ◌≢◌, ℕ, ◌+◌, ◌*◌, ◌%◌, ◌<◌, ◌≤◌, Bool, true, false, not, ◌==◌, ◌&&◌, ◌||◌, List, ◌++◌, codes, is_some, unwrap_or, Option, Some, None, refl, sym, ap, ◌∙◌, arith}
+use Rattle.std.proofs.Common.{◌≡◌, ◌≢◌, ℕ, ◌*◌, ◌<◌, ◌≤◌, true, false, not, ◌==◌, ◌&&◌, List, is_some, unwrap_or, Option, Some, None, refl, sym, ap, ◌∙◌, arith}
 use Rattle.std.proofs.Math.Nat.{mod-eq_of_lt}
-use Rattle.std.proofs.lemmas.Bool.{not-false, not_from_true, and_parts, or_parts, eqb-false, ne_eqb, cases_eq, eq-eqb}
+use Rattle.std.proofs.lemmas.Bool.{not-false, and_parts, or_parts, eqb-false, ne_eqb}
 use Rattle.std.proofs.lemmas.Bool.Decides.{nat_tests}
 use Rattle.terrain_base.specs.declared.square.Square.{Square}
 use Rattle.terrain_base.specs.declared.level.CellLevel.{CellLevel}
 use Rattle.terrain_base.specs.declared.level.CellLevel.TheVariants.{Zero, One, Two}
 use Rattle.terrain_base.specs.Level.{lat_step_of, lon_step_of, rows_of, columns_of}
-use Rattle.dted_cell.specs.declared.refusal.CellRefusal.{CellRefusal}
-use Rattle.dted_cell.specs.Field.{number_of, number_at, is_number, HasNumber, spells}
-use Rattle.dted_cell.specs.Header.{east, west, north, south, degrees_east, degrees_north, is_whole, square_of, square_at, level_of_interval, level_at, series_of, IsHeader, IsLatitude}
-use Rattle.dted_cell.specs.Refusal.{first_of, angle_conditions, lattice_conditions, field_conditions, shape_conditions, label_conditions, text_conditions, is_off_degree, has_wrong_spacing, has_wrong_counts}
+use Rattle.dted_cell.specs.Field.{number_at, HasNumber}
+use Rattle.dted_cell.specs.Header.{east, west, north, south, degrees_north, is_whole, square_of, square_at, level_of_interval, level_at, IsHeader, IsLatitude}
+use Rattle.dted_cell.specs.Refusal.{first_of, lattice_conditions, field_conditions, shape_conditions, label_conditions, text_conditions, is_off_degree, has_wrong_spacing, has_wrong_counts}
 use Rattle.dted_cell.proofs.First.{first_of_append, fields_first}
 use Rattle.dted_cell.proofs.Headers.{text_first}
-use Rattle.dted_cell.proofs.Origins.{value_of, found_angle, FoundAngle, north_most, longitude_by, latitude_by, by_longitude, by_latitude}
+use Rattle.dted_cell.proofs.Origins.{value_of, found_angle, north_most, longitude_by, latitude_by, by_longitude, by_latitude}
 use Rattle.dted_cell.proofs.RecordLaws.{same_by, by_same}
 use Rattle.dted_cell.proofs.Squares.{square_path}
 use Rattle.dted_cell.proofs.Stands.{neither, not_when, number_is}
@@ -156,7 +155,7 @@ module _ (text : List ℕ) (square : Square) (level : CellLevel) (good : IsHeade
   spacing_passes : has_wrong_spacing text ≡ false
   spacing_passes =
       let interval : number_at text 20 24 ≡ 10 * lon_step_of (square_at text) (level_at text) =
-        value_of _ _ good.lon_interval ∙ ap (λ s. 10 * lon_step_of s level) square_here ∙ ap (λ l. 10 * lon_step_of (square_at text) l) by_level in
+      value_of _ _ good.lon_interval ∙ ap (λ s. 10 * lon_step_of s level) square_here ∙ ap (λ l. 10 * lon_step_of (square_at text) l) by_level in
       let is = interval_here in
       rw is (by_same _ _ interval)
 

@@ -6,6 +6,7 @@ pub mod HeaderLaws
 pub mod Headers
 pub mod WholeCells
 pub mod Leads
+pub mod Numbers
 pub mod Origins
 pub mod RecordLaws
 pub mod Shapes

@@ -1,10 +1,9 @@
 -- The origin's fields, by positions and without a refusal.
-use Rattle.std.proofs.Common.{◌≡◌, ◌≢◌, ℕ, ◌+◌, ◌-◌, ◌%◌, ◌<◌, ◌≤◌, ◌⊎◌, Bool, true, false, not, ◌==◌, ◌&&◌, ◌||◌, List, slice_index, is_some, unwrap_or, Option, Some, None, refl, sym, ap, ◌∙◌, inl, inr, arith}
+use Rattle.std.proofs.Common.{◌≡◌, ℕ, ◌+◌, ◌-◌, ◌%◌, ◌<◌, ◌≤◌, ◌⊎◌, true, ◌==◌, ◌||◌, List, slice_index, is_some, unwrap_or, Option, Some, None, refl, sym, ap, ◌∙◌, inl, inr, arith}
 use Rattle.std.proofs.Math.Nat.{mod-eq_of_lt}
-use Rattle.std.proofs.lemmas.Bool.{not-false, and_parts, and_from, or_cases, eqb-true, eqb-false, eq-eqb, ne_eqb, leb-true, le-leb}
-use Rattle.dted_cell.specs.declared.refusal.CellRefusal.{CellRefusal}
-use Rattle.dted_cell.specs.Field.{number_of, number_at, is_number, HasNumber}
-use Rattle.dted_cell.specs.Header.{east, west, north, south, degrees_east, degrees_north, is_whole, square_of, square_at, IsAngle, IsLongitude, IsLatitude}
+use Rattle.std.proofs.lemmas.Bool.{not-false, and_parts, or_cases, eqb-true, leb-true, le-leb}
+use Rattle.dted_cell.specs.Field.{number_at, is_number, HasNumber}
+use Rattle.dted_cell.specs.Header.{east, west, north, south, degrees_east, degrees_north, is_whole, IsAngle, IsLongitude, IsLatitude}
 use Rattle.dted_cell.specs.Refusal.{first_of, angle_conditions}
 use Rattle.dted_cell.proofs.Stands.{neither, not_when, number_is}
 
@@ -75,9 +74,9 @@ small_lon n = let below : 180 - n < 360 = omega arith in mod-eq_of_lt below
 
 pub longitude_by : (text : List ℕ) → FoundAngle text 4 180 east west → is_whole text 4 ≡ true → IsLongitude text (degrees_east text % 360)
 longitude_by text found whole = elim found.letter [
-    | inl is_east ↦ inl (number_at text 4 7, whole_angle text 4 180 east west east found whole is_east, ap (λ n. n % 360) (east_by text is_east))
-    | inr is_west ↦ inr (number_at text 4 7, whole_angle text 4 180 east west west found whole is_west, ap (λ n. n % 360) (west_by text is_west) ∙ small_lon (number_at text 4 7))
-  ]
+  | inl is_east ↦ inl (number_at text 4 7, whole_angle text 4 180 east west east found whole is_east, ap (λ n. n % 360) (east_by text is_east))
+  | inr is_west ↦ inr (number_at text 4 7, whole_angle text 4 180 east west west found whole is_west, ap (λ n. n % 360) (west_by text is_west) ∙ small_lon (number_at text 4 7))
+]
 
 pub by_longitude : (text : List ℕ) (lon : ℕ) → IsLongitude text lon → (lon ≡ degrees_east text % 360) × (first_of (angle_conditions text 4 180 east west) ≡ None) × (is_whole text 4 ≡ true)
 by_longitude text lon (inl (d, angle, is)) =
@@ -96,15 +95,15 @@ south_by text e = rw e refl
 
 pub north_most : (text : List ℕ) → FoundAngle text 12 90 north south → degrees_north text ≤ 180
 north_most text found = elim found.letter [
-    | inl is_north ↦ omega (arith, north_by text is_north, found.in_range)
-    | inr is_south ↦ omega (arith, south_by text is_south)
-  ]
+  | inl is_north ↦ omega (arith, north_by text is_north, found.in_range)
+  | inr is_south ↦ omega (arith, south_by text is_south)
+]
 
 pub latitude_by : (text : List ℕ) → FoundAngle text 12 90 north south → is_whole text 12 ≡ true → IsLatitude text (degrees_north text)
 latitude_by text found whole = elim found.letter [
-    | inl is_north ↦ inl (number_at text 12 15, whole_angle text 12 90 north south north found whole is_north, north_by text is_north)
-    | inr is_south ↦ inr (number_at text 12 15, whole_angle text 12 90 north south south found whole is_south, south_by text is_south)
-  ]
+  | inl is_north ↦ inl (number_at text 12 15, whole_angle text 12 90 north south north found whole is_north, north_by text is_north)
+  | inr is_south ↦ inr (number_at text 12 15, whole_angle text 12 90 north south south found whole is_south, south_by text is_south)
+]
 
 pub by_latitude : (text : List ℕ) (lat : ℕ) → IsLatitude text lat → (lat ≡ degrees_north text) × (first_of (angle_conditions text 12 90 north south) ≡ None) × (is_whole text 12 ≡ true)
 by_latitude text lat (inl (d, angle, is)) =

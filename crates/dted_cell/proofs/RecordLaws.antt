@@ -1,10 +1,8 @@
 -- Records without a refusal are good, and the other way round.
-use Rattle.std.proofs.Common.{◌≡◌, ℕ, ◌+◌, ◌%◌, ◌<◌, ◌≤◌, ◌⊎◌, Bool, false, not, ◌&&◌, ◌==◌, nat_lt, List, slice_index, Option, None, refl, sym, ap, ◌∙◌, arith}
+use Rattle.std.proofs.Common.{◌≡◌, ℕ, ◌%◌, ◌≤◌, ◌⊎◌, false, not, ◌&&◌, ◌==◌, nat_lt, List, None, refl, arith}
 use Rattle.std.proofs.lemmas.Bool.Decides.{nat_tests}
-use Rattle.std.specs.List.{range_with_len}
 use Rattle.dted_cell.specs.Field.{word_at}
-use Rattle.dted_cell.specs.Elevation.{IsElevation, is_out_of_range}
-use Rattle.dted_cell.specs.Record.{record_at, elevation_at, longitude_count, stated_sum, plain_sum, IsRecord}
+use Rattle.dted_cell.specs.Record.{elevation_at, IsRecord}
 use Rattle.dted_cell.specs.Refusal.{first_of, height_condition, record_conditions}
 use Rattle.dted_cell.proofs.Stands.{neither, not_when, none_of_map, none_by_map}
 
@@ -35,4 +33,4 @@ record_by text rows col e =
 pub by_record : (text : List ℕ) (rows col : ℕ) → IsRecord text rows col → first_of (record_conditions text rows col) ≡ None
 by_record text rows col good =
     rw (by_same _ 170 good.sentinel, by_same _ col good.column, by_same _ _ good.checksum)
-      (none_by_map (height_condition text rows col) 0 rows (λ row l u. rw (by_elevation (word_at text (elevation_at rows col row)) (good.heights row (omega arith))) refl))
+    (none_by_map (height_condition text rows col) 0 rows (λ row l u. rw (by_elevation (word_at text (elevation_at rows col row)) (good.heights row (omega arith))) refl))

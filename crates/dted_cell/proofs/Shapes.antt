@@ -1,11 +1,10 @@
 -- The refusals of a header's origin, spacing and counts, by its fields.
-use Rattle.std.proofs.Common.{◌≡◌, ◌≢◌, ℕ, ◌*◌, ◌==◌, Bool, true, false, not, cond, ◌&&◌, ◌||◌, List, ◌++◌, Option, Some, None, refl, sym, ap, ◌∙◌, arith}
+use Rattle.std.proofs.Common.{◌≡◌, ◌≢◌, ℕ, ◌*◌, ◌==◌, Bool, true, false, not, cond, ◌&&◌, ◌||◌, List, ◌++◌, Some, None, refl, sym, ap, ◌∙◌, arith}
 use Rattle.std.proofs.lemmas.Bool.Decides.{nat_tests}
 use Rattle.std.specs.Option.{option_or}
 use Rattle.terrain_base.specs.declared.square.Square.{Square}
 use Rattle.terrain_base.specs.declared.level.CellLevel.{CellLevel}
 use Rattle.terrain_base.specs.Level.{lon_step_of, rows_of, columns_of}
-use Rattle.dted_cell.specs.declared.refusal.CellRefusal.{CellRefusal}
 use Rattle.dted_cell.specs.declared.refusal.CellRefusal.TheVariants.{OffDegree, WrongSpacing, WrongCounts}
 use Rattle.dted_cell.specs.declared.fields.Fields.{Fields}
 use Rattle.dted_cell.specs.Field.{number_at}

@@ -1,5 +1,5 @@
 -- What follows where no refusal stands.
-use Rattle.std.proofs.Common.{◌≡◌, ◌≢◌, ℕ, zero, suc, ◌+◌, ◌-◌, ◌<◌, ◌≤◌, Bool, true, false, not, cond, ◌==◌, List, [], ◌∷◌, map, is_some, unwrap_or, Option, Some, None, refl, sym, ap, ◌∙◌, inl, inr, arith}
+use Rattle.std.proofs.Common.{◌≡◌, ℕ, zero, suc, ◌+◌, ◌<◌, ◌≤◌, Bool, true, false, not, List, map, is_some, unwrap_or, Option, Some, None, refl, sym, ap, ◌∙◌, inl, inr, arith}
 use Rattle.std.proofs.lemmas.Bool.{cases_eq}
 use Rattle.std.specs.List.{flat_map, range_with_len}
 use Rattle.std.specs.Option.{option_or}
@@ -21,9 +21,9 @@ not_when e false h = refl
 pub none_of_map : (f : ℕ → Option CellRefusal) (k n i : ℕ) → first_of (map f (range_with_len k n)) ≡ None → k ≤ i → i < k + n → f i ≡ None
 none_of_map f k zero i e l h = absurd (omega arith)
 none_of_map f k (suc n) i e l h = let both = neither (f k) (first_of (map f (range_with_len (k + 1) n))) e in elim (cases_eq i k) [
-    | inl same ↦ ap f same ∙ both.0
-    | inr apart ↦ none_of_map f (k + 1) n i both.1 (omega arith) (omega arith)
-  ]
+  | inl same ↦ ap f same ∙ both.0
+  | inr apart ↦ none_of_map f (k + 1) n i both.1 (omega arith) (omega arith)
+]
 
 pub none_by_map : (f : ℕ → Option CellRefusal) (k n : ℕ) → ((i : ℕ) → k ≤ i → i < k + n → f i ≡ None) → first_of (map f (range_with_len k n)) ≡ None
 none_by_map f k zero h = refl

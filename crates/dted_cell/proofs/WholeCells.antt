@@ -1,22 +1,17 @@
 -- A file without a refusal is a cell, and the other way round.
-use Rattle.std.proofs.Common.{◌≡◌, ℕ, zero, suc, ◌+◌, ◌-◌, ◌*◌, ◌<◌, ◌≤◌, Bool, true, false, nat_lt, List, [], ◌∷◌, ◌++◌, length, get_or, map, Option, Some, None, IsNone, is_some, IsOk, OnOk, ◌↔◌, Result, Ok, Err, refl, sym, ap, ◌∙◌, subst, arith, length-drop}
+use Rattle.std.proofs.Common.{◌≡◌, ℕ, zero, suc, ◌+◌, ◌<◌, ◌≤◌, false, List, [], ◌∷◌, ◌++◌, length, get_or, Option, Some, None, IsNone, is_some, IsOk, OnOk, ◌↔◌, Result, Ok, Err, refl, sym, ap, ◌∙◌, subst, arith, length-drop}
 use Rattle.std.proofs.lemmas.Bool.{ltb-false, le-ltb}
 use Rattle.std.proofs.lemmas.List.FromFn.{length-map-range_with_len, get_or-map-range_with_len, fill_by_all}
-use Rattle.std.specs.List.{range_with_len, flat_map, All}
-use Rattle.std.specs.Option.{option_or}
+use Rattle.std.specs.List.{All}
 use Rattle.std.specs.Result.{result_err}
 use Rattle.terrain_base.specs.declared.square.Square.{Square}
 use Rattle.terrain_base.specs.declared.level.CellLevel.{CellLevel}
 use Rattle.terrain_base.specs.declared.post.Post.{Post}
 use Rattle.terrain_base.specs.declared.post.Post.TheVariants.{Void}
-use Rattle.terrain_base.specs.Level.{rows_of, columns_of}
 use Rattle.dted_cell.specs.declared.refusal.CellRefusal.{CellRefusal}
-use Rattle.dted_cell.specs.Field.{word_at}
 use Rattle.dted_cell.specs.Lead.{lead_of, text_of}
-use Rattle.dted_cell.specs.Elevation.{post_of}
-use Rattle.dted_cell.specs.Header.{square_at, level_at, IsHeader}
-use Rattle.dted_cell.specs.Record.{record_at, elevation_at, IsRecord}
-use Rattle.dted_cell.specs.Refusal.{first_of, IsFirst, is_shorter, text_conditions, header_conditions, record_conditions, data_conditions, conditions_of, refusal_of}
+use Rattle.dted_cell.specs.Record.{record_at}
+use Rattle.dted_cell.specs.Refusal.{first_of, IsFirst, is_shorter, header_conditions, record_conditions, data_conditions, refusal_of}
 use Rattle.dted_cell.specs.Cell.{HasPosts, IsCell, IsSomeCell, square_in, level_in, columns_in, rows_in, post_in, column_in, posts_in}
 use Rattle.dted_cell.proofs.Cells.{refusal_parts}
 use Rattle.dted_cell.proofs.HeaderLaws.{header_by, by_header, square_here, by_level}
@@ -37,7 +32,7 @@ posts_there : (bytes : List ℕ) → HasPosts (text_of bytes) (columns_in bytes)
 unfolding posts_in post_in
 posts_there bytes =
     let column : (col : ℕ) → col < columns_in bytes → get_or (posts_in bytes) col [] ≡ column_in bytes col =
-      λ col h. get_or-map-range_with_len (column_in bytes) 0 (columns_in bytes) col col [] h (omega arith) in
+    λ col h. get_or-map-range_with_len (column_in bytes) 0 (columns_in bytes) col col [] h (omega arith) in
     record {
       column_count = length-map-range_with_len (column_in bytes) 0 (columns_in bytes);
       row_count = λ col h. ap length (column col h) ∙ length-map-range_with_len (post_in bytes col) 0 (rows_in bytes);
@@ -48,7 +43,7 @@ posts_only : (bytes : List ℕ) (posts : List (List Post)) → HasPosts (text_of
 unfolding posts_in post_in
 posts_only bytes posts has =
     fill_by_all (column_in bytes) posts (columns_in bytes) [] has.column_count
-      (λ col h. fill_by_all (post_in bytes col) (get_or posts col []) (rows_in bytes) Void (has.row_count col h) (λ row k. has.each col row h k))
+    (λ col h. fill_by_all (post_in bytes col) (get_or posts col []) (rows_in bytes) Void (has.row_count col h) (λ row k. has.each col row h k))
 
 -- ---- the file
 pub cell_by : (bytes : List ℕ) → refusal_of bytes ≡ None → IsCell bytes (square_in bytes) (level_in bytes) (posts_in bytes)
@@ -71,7 +66,7 @@ here bytes posts cell =
     let header_long : is_shorter bytes 3428 ≡ false = by_long bytes 3428 (omega arith) (omega arith) in
     let data_long : is_shorter bytes (record_at (rows_in bytes) (columns_in bytes)) ≡ false = by_long bytes _ long (omega arith) in
     refusal_parts bytes ∙ rw (header_long, by_header (text_of bytes) (square_in bytes) (level_in bytes) cell.header, data_long)
-      (none_by_flat (record_conditions (text_of bytes) (rows_in bytes)) 0 (columns_in bytes) (λ col l u. by_record (text_of bytes) (rows_in bytes) col (cell.records col (omega arith))))
+    (none_by_flat (record_conditions (text_of bytes) (rows_in bytes)) 0 (columns_in bytes) (λ col l u. by_record (text_of bytes) (rows_in bytes) col (cell.records col (omega arith))))
 
 posts_here : (bytes : List ℕ) (posts : List (List Post)) → IsCell bytes (square_in bytes) (level_in bytes) posts → posts ≡ posts_in bytes
 unfolding columns_in rows_in

@@ -1,5 +1,28 @@
 -- A whole cell: a file of DTED (MIL-PRF-89020), by positions and as what is read of it.
-use Rattle.std.specs.Prelude.{◌≡◌, ℕ, ℤ, ◌+◌, ◌*◌, ◌<◌, ◌≤◌, ◌≤ℤ◌, Bool, true, false, List, [], length, map, fold, sum_by, count_by, slice_range, slice_index_or, Option, Some, None}
+use Rattle.std.specs.Prelude.{
+  ◌≡◌,
+  ℕ,
+  ℤ,
+  ◌*◌,
+  ◌<◌,
+  ◌≤◌,
+  ◌≤ℤ◌,
+  Bool,
+  true,
+  false,
+  List,
+  [],
+  length,
+  map,
+  fold,
+  sum_by,
+  count_by,
+  slice_range,
+  slice_index_or,
+  Option,
+  Some,
+  None,
+}
 use Rattle.std.specs.List.{range_with_len}
 use Rattle.std.specs.Int.{int_min, int_max}
 use Rattle.terrain_base.specs.declared.square.Square.{Square}
@@ -20,10 +43,12 @@ use Rattle.dted_cell.specs.Record.{record_at, elevation_at, IsRecord}
 pub record HasPosts (text : List ℕ) (columns rows : ℕ) (posts : List (List Post)) : Type 0 where
   pub column_count : length posts ≡ columns
   pub row_count : (col : ℕ) → col < columns → length (slice_index_or posts col []) ≡ rows
-  pub each : (col row : ℕ) → col < columns → row < rows → slice_index_or (slice_index_or posts col []) row Void ≡ post_of (word_at text (elevation_at rows col row))
+  pub each : (col row : ℕ) → col < columns → row < rows →
+      slice_index_or (slice_index_or posts col []) row Void ≡ post_of (word_at text (elevation_at rows col row))
 
 -- the file is the cell of this square, of this level, with these posts by column and row
-pub record IsCell (bytes : List ℕ) (square : Square) (level : CellLevel) (posts : List (List Post)) : Type 0 where
+pub record IsCell
+    (bytes : List ℕ) (square : Square) (level : CellLevel) (posts : List (List Post)) : Type 0 where
   pub header : IsHeader (text_of bytes) square level
   pub long_enough : record_at (rows_of level) (columns_of square level) ≤ length (text_of bytes)
   pub records : (col : ℕ) → col < columns_of square level → IsRecord (text_of bytes) (rows_of level) col
@@ -31,7 +56,8 @@ pub record IsCell (bytes : List ℕ) (square : Square) (level : CellLevel) (post
 
 -- the file is a cell
 abbrev pub IsSomeCell : List ℕ → Type 0
-IsSomeCell bytes = (square : Square) × (level : CellLevel) × (posts : List (List Post)) × IsCell bytes square level posts
+IsSomeCell bytes =
+    (square : Square) × (level : CellLevel) × (posts : List (List Post)) × IsCell bytes square level posts
 
 -- ---- what is read
 
@@ -53,7 +79,9 @@ post_in bytes col row = post_of (word_at (text_of bytes) (elevation_at (rows_in 
 
 -- the elevations of a column, two bytes each, as they stand
 unfoldable pub profile_in : List ℕ → ℕ → List ℕ
-profile_in bytes col = slice_range (text_of bytes) (elevation_at (rows_in bytes) col 0) (elevation_at (rows_in bytes) col (rows_in bytes))
+profile_in bytes col =
+    let rows = rows_in bytes in
+    slice_range (text_of bytes) (elevation_at rows col 0) (elevation_at rows col rows)
 
 -- the post of a row in a column's elevations
 abbrev pub post_of_row : List ℕ → ℕ → Post
@@ -87,7 +115,8 @@ extremes_in bytes = fold (fold widened) None (posts_in bytes)
 
 -- some post of the file is so many metres
 abbrev pub HasHeight : List ℕ → ℤ → Type 0
-HasHeight bytes metres = (col row : ℕ) × (col < columns_in bytes) × (row < rows_in bytes) × (post_in bytes col row ≡ Metres metres)
+HasHeight bytes metres =
+    (col row : ℕ) × (col < columns_in bytes) × (row < rows_in bytes) × (post_in bytes col row ≡ Metres metres)
 
 -- every post is void
 abbrev pub IsAllVoid : List ℕ → Type 0
@@ -97,4 +126,5 @@ IsAllVoid bytes = (col row : ℕ) → col < columns_in bytes → row < rows_in b
 pub record BoundsPosts (bytes : List ℕ) (extremes : Extremes) : Type 0 where
   pub has_least : HasHeight bytes extremes.least
   pub has_greatest : HasHeight bytes extremes.greatest
-  pub between : (metres : ℤ) → HasHeight bytes metres → (extremes.least ≤ℤ metres) × (metres ≤ℤ extremes.greatest)
+  pub between : (metres : ℤ) → HasHeight bytes metres →
+      (extremes.least ≤ℤ metres) × (metres ≤ℤ extremes.greatest)

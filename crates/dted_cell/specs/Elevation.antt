@@ -1,5 +1,21 @@
 -- Elevations: a sign bit and 15 bits of whole metres (MIL-PRF-89020, data record).
-use Rattle.std.specs.Prelude.{◌≡◌, ℕ, ℤ, pos, neg_ℤ, ◌-◌, ◌%◌, ◌≤◌, ◌⊎◌, ◌==◌, nat_lt, not, Bool, ◌&&◌, if◌then◌else◌}
+use Rattle.std.specs.Prelude.{
+  ◌≡◌,
+  ℕ,
+  ℤ,
+  pos,
+  neg_ℤ,
+  ◌-◌,
+  ◌%◌,
+  ◌≤◌,
+  ◌⊎◌,
+  ◌==◌,
+  nat_lt,
+  not,
+  Bool,
+  ◌&&◌,
+  if◌then◌else◌,
+}
 use Rattle.terrain_base.specs.declared.post.Post.{Post}
 use Rattle.terrain_base.specs.declared.post.Post.TheVariants.{Void, Metres}
 

@@ -1,6 +1,33 @@
 -- Numbers and words in a cell's labels and records (MIL-PRF-89020, user header label and data record).
-use Rattle.std.specs.Prelude.{◌≡◌, ℕ, ◌+◌, ◌-◌, ◌*◌, ◌<◌, ◌==◌, nat_eq, nat_lt, Bool, ◌&&◌, List, length, drop, fold, slice_index, slice_range, Option, Some, None, is_some, unwrap_or, IsTrue, if◌then◌else◌}
-use Rattle.std.specs.List.{list_all, prefix_len, starts_with}
+use Rattle.std.specs.Prelude.{
+  ◌≡◌,
+  ◌++◌,
+  replicate,
+  ℕ,
+  ◌+◌,
+  ◌-◌,
+  ◌*◌,
+  ◌<◌,
+  ◌==◌,
+  nat_eq,
+  nat_lt,
+  Bool,
+  ◌&&◌,
+  List,
+  length,
+  drop,
+  fold,
+  slice_index,
+  slice_range,
+  Option,
+  Some,
+  None,
+  is_some,
+  unwrap_or,
+  IsTrue,
+  if◌then◌else◌,
+}
+use Rattle.std.specs.List.{AllPass, list_all, prefix_len, starts_with}
 use Rattle.std.specs.Char.{is_ascii_digit}
 
 -- the byte ' '
@@ -22,6 +49,12 @@ are_digits digits = nat_lt 0 (length digits) && list_all is_ascii_digit digits
 -- the number in a field: at least one decimal digit, after any number of leading blanks, and nothing else
 unfoldable pub number_of : List ℕ → Option ℕ
 number_of field = if are_digits (after_blanks field) then Some (decimal_value (after_blanks field)) else None
+
+-- the same by its parts: blanks, and then digits that spell the number
+abbrev pub IsNumberField : List ℕ → ℕ → Type 0
+IsNumberField field n =
+    (blanks : ℕ) × (digits : List ℕ) × (field ≡ replicate blanks 32 ++ digits) ×
+    (0 < length digits) × AllPass is_ascii_digit digits × (n ≡ decimal_value digits)
 
 -- the number in the field from one byte up to another, and 0 where there is none
 abbrev pub number_at : List ℕ → ℕ → ℕ → ℕ

@@ -1,7 +1,5 @@
 -- What is known of a file that was read.
 use Rattle.std.specs.Prelude.{◌≡◌, ℕ, List, None}
-use Rattle.dted_cell.specs.Lead.{lead_of}
-use Rattle.dted_cell.specs.Cell.{square_in, level_in, columns_in, rows_in}
 use Rattle.dted_cell.specs.Refusal.{refusal_of}
 use Rattle.dted_cell.specs.Fields.{SaysHeader}
 use Rattle.dted_cell.specs.declared.header.Header.{Header}

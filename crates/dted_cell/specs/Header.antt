@@ -1,13 +1,33 @@
 -- The header of a cell: user header label, data set identification and accuracy description
 -- (MIL-PRF-89020, UHL, DSI and ACC records). Offsets count from the end of the lead.
-use Rattle.std.specs.Prelude.{◌≡◌, ℕ, ◌+◌, ◌-◌, ◌*◌, ◌%◌, ◌<◌, ◌≤◌, ◌⊎◌, ◌==◌, nat_lt, nat_le, Bool, not, ◌&&◌, ◌||◌, List, [], ◌∷◌, codes, slice_index, Option, Some, None, is_some, is_none, unwrap_or, if◌then◌else◌, zero}
+use Rattle.std.specs.Prelude.{
+  ◌≡◌,
+  ℕ,
+  ◌+◌,
+  ◌-◌,
+  ◌*◌,
+  ◌%◌,
+  ◌≤◌,
+  ◌⊎◌,
+  ◌==◌,
+  Bool,
+  ◌&&◌,
+  List,
+  codes,
+  slice_index,
+  Option,
+  Some,
+  None,
+  unwrap_or,
+  if◌then◌else◌,
+}
 use Rattle.std.proofs.Math.Nat.{mod-lt}
 use Rattle.std.proofs.Common.{lit<}
 use Rattle.terrain_base.specs.declared.square.Square.{Square}
 use Rattle.terrain_base.specs.declared.level.CellLevel.{CellLevel}
 use Rattle.terrain_base.specs.declared.level.CellLevel.TheVariants.{Zero, One, Two}
 use Rattle.terrain_base.specs.Level.{lat_step_of, lon_step_of, rows_of, columns_of}
-use Rattle.dted_cell.specs.Field.{number_of, number_at, is_number, HasNumber, Spells}
+use Rattle.dted_cell.specs.Field.{number_at, HasNumber, Spells}
 
 -- the letters of the hemispheres
 abbrev pub east : ℕ
@@ -27,7 +47,8 @@ south = 83
 -- an angle's degrees, from the end of the half that its second letter names
 abbrev pub degrees_from : List ℕ → ℕ → ℕ → ℕ → ℕ
 degrees_from text at half letter =
-    if slice_index text (at + 7) == letter then half + number_at text at (at + 3) else (half - number_at text at (at + 3))
+    let degrees = number_at text at (at + 3) in
+    if slice_index text (at + 7) == letter then half + degrees else (half - degrees)
 
 -- the origin's degrees east of 180 degrees west, of which 360 is 0, and north of the south pole
 abbrev pub degrees_east : List ℕ → ℕ
@@ -43,11 +64,11 @@ is_whole text at = number_at text (at + 3) (at + 5) == 0 && number_at text (at +
 -- the square at these degrees (of 90 degrees north, where no square is, this makes one at the south pole)
 unfoldable pub square_of : ℕ → ℕ → Square
 square_of lon lat = record {
-    lat = lat % 180;
-    lon = lon % 360;
-    lat_in_range = mod-lt lat (lit< tt);
-    lon_in_range = mod-lt lon (lit< tt);
-  }
+  lat = lat % 180;
+  lon = lon % 360;
+  lat_in_range = mod-lt lat (lit< tt);
+  lon_in_range = mod-lt lon (lit< tt);
+}
 
 -- the square at the origin
 unfoldable pub square_at : List ℕ → Square
@@ -56,7 +77,9 @@ square_at text = square_of (degrees_east text) (degrees_north text)
 -- the level whose posts lie this far apart in latitude, in tenths of an arc-second
 abbrev pub level_of_interval : ℕ → Option CellLevel
 level_of_interval tenths =
-    if tenths == 300 then Some Zero else (if tenths == 30 then Some One else (if tenths == 10 then Some Two else None))
+    if tenths == 300 then Some Zero else
+    (if tenths == 30 then Some One else
+    (if tenths == 10 then Some Two else None))
 
 -- the level of the latitude interval (of no level's interval, this makes level 2)
 unfoldable pub level_at : List ℕ → CellLevel
@@ -70,7 +93,8 @@ series_of Two = codes "DTED2"
 
 -- ---- a good header, by positions
 
--- an angle of whole degrees: three characters of degrees, two of minutes, two of seconds, and the hemisphere's letter
+-- an angle of whole degrees: three characters of degrees, two of minutes, two of seconds, and the letter of a
+-- hemisphere
 pub record IsAngle (text : List ℕ) (at most degrees letter : ℕ) : Type 0 where
   pub degrees_field : HasNumber text at (at + 3) degrees
   pub in_range : degrees ≤ most
@@ -81,12 +105,14 @@ pub record IsAngle (text : List ℕ) (at most degrees letter : ℕ) : Type 0 whe
 -- the origin's longitude is so many whole degrees east of 180 degrees west: 180 E is 180 W
 abbrev pub IsLongitude : List ℕ → ℕ → Type 0
 IsLongitude text lon =
-    ((degrees : ℕ) × IsAngle text 4 180 degrees east × (lon ≡ (180 + degrees) % 360)) ⊎ ((degrees : ℕ) × IsAngle text 4 180 degrees west × (lon ≡ 180 - degrees))
+    ((degrees : ℕ) × IsAngle text 4 180 degrees east × (lon ≡ (180 + degrees) % 360)) ⊎
+    ((degrees : ℕ) × IsAngle text 4 180 degrees west × (lon ≡ 180 - degrees))
 
 -- the origin's latitude is so many whole degrees north of the south pole
 abbrev pub IsLatitude : List ℕ → ℕ → Type 0
 IsLatitude text lat =
-    ((degrees : ℕ) × IsAngle text 12 90 degrees north × (lat ≡ 90 + degrees)) ⊎ ((degrees : ℕ) × IsAngle text 12 90 degrees south × (lat ≡ 90 - degrees))
+    ((degrees : ℕ) × IsAngle text 12 90 degrees north × (lat ≡ 90 + degrees)) ⊎
+    ((degrees : ℕ) × IsAngle text 12 90 degrees south × (lat ≡ 90 - degrees))
 
 -- the header of a square's cell of this level; intervals are in tenths of an arc-second
 pub record IsHeader (text : List ℕ) (square : Square) (level : CellLevel) : Type 0 where

@@ -3,7 +3,8 @@ use Rattle.std.specs.Prelude.{◌≡◌, ℕ, ◌+◌, ◌*◌, ◌<◌, List, s
 use Rattle.dted_cell.specs.Field.{word_at, long_at}
 use Rattle.dted_cell.specs.Elevation.{IsElevation}
 
--- where the record of a column begins: behind a header of 3428 bytes, each record has 8 bytes, two for each row, and 4 of checksum
+-- where the record of a column begins, behind a header of 3428 bytes: each record has 8 bytes, two for each row, and
+-- 4 of checksum
 abbrev pub record_at : ℕ → ℕ → ℕ
 record_at rows col = 3428 + col * (12 + 2 * rows)
 

@@ -1,16 +1,68 @@
 -- Which refusal a file gets: the first whose condition holds, in the order below.
-use Rattle.std.specs.Prelude.{◌≡◌, ℕ, All, IsNone, ◌+◌, ◌*◌, ◌==◌, nat_lt, nat_le, Bool, not, ◌&&◌, ◌||◌, List, [], ◌∷◌, ◌++◌, length, map, flat_map, codes, slice_index, Option, Some, None, is_some, if◌then◌else◌}
+use Rattle.std.specs.Prelude.{
+  ◌≡◌,
+  ℕ,
+  All,
+  IsNone,
+  ◌+◌,
+  ◌*◌,
+  ◌==◌,
+  nat_lt,
+  nat_le,
+  Bool,
+  not,
+  ◌&&◌,
+  ◌||◌,
+  List,
+  [],
+  ◌∷◌,
+  ◌++◌,
+  length,
+  map,
+  flat_map,
+  codes,
+  slice_index,
+  Option,
+  Some,
+  None,
+  is_some,
+  if◌then◌else◌,
+}
 use Rattle.std.specs.List.{range_with_len}
 use Rattle.std.specs.Option.{option_or}
-use Rattle.terrain_base.specs.declared.square.Square.{Square}
-use Rattle.terrain_base.specs.declared.level.CellLevel.{CellLevel}
 use Rattle.terrain_base.specs.Level.{lon_step_of, rows_of, columns_of}
 use Rattle.dted_cell.specs.declared.refusal.CellRefusal.{CellRefusal}
-use Rattle.dted_cell.specs.declared.refusal.CellRefusal.TheVariants.{TooShort, NoUhl, BadField, OffDegree, WrongSpacing, WrongCounts, NoDsi, SeriesDisagrees, NotWgs84, NoAcc, BadSentinel, BadColumn, BadChecksum, HeightOutOfRange}
+use Rattle.dted_cell.specs.declared.refusal.CellRefusal.TheVariants.{
+  TooShort,
+  NoUhl,
+  BadField,
+  OffDegree,
+  WrongSpacing,
+  WrongCounts,
+  NoDsi,
+  SeriesDisagrees,
+  NotWgs84,
+  NoAcc,
+  BadSentinel,
+  BadColumn,
+  BadChecksum,
+  HeightOutOfRange,
+}
 use Rattle.dted_cell.specs.Field.{number_at, is_number, spells, word_at}
 use Rattle.dted_cell.specs.Lead.{lead_of, text_of}
 use Rattle.dted_cell.specs.Elevation.{signed_of, is_out_of_range}
-use Rattle.dted_cell.specs.Header.{east, west, north, south, is_whole, degrees_north, square_at, level_of_interval, level_at, series_of}
+use Rattle.dted_cell.specs.Header.{
+  east,
+  west,
+  north,
+  south,
+  is_whole,
+  degrees_north,
+  square_at,
+  level_of_interval,
+  level_at,
+  series_of,
+}
 use Rattle.dted_cell.specs.Cell.{columns_in, rows_in}
 use Rattle.dted_cell.specs.Record.{record_at, elevation_at, longitude_count, stated_sum, plain_sum}
 
@@ -26,7 +78,8 @@ first_of (refusal ∷ later) = option_or refusal (first_of later)
 
 -- a refusal stands in the list, and none before it
 abbrev pub IsFirst : List (Option CellRefusal) → CellRefusal → Type 0
-IsFirst refusals refusal = (before after : List (Option CellRefusal)) × (refusals ≡ before ++ Some refusal ∷ after) × All IsNone before
+IsFirst refusals refusal =
+    (before after : List (Option CellRefusal)) × (refusals ≡ before ++ Some refusal ∷ after) × All IsNone before
 
 -- ---- the header's conditions
 
@@ -60,7 +113,10 @@ lattice_conditions text =
 
 -- the longitude at 4, 7, 9 and 11, the latitude at 12, 15, 17 and 19, then the rest
 unfoldable pub field_conditions : List ℕ → List (Option CellRefusal)
-field_conditions text = angle_conditions text 4 180 east west ++ angle_conditions text 12 90 north south ++ lattice_conditions text
+field_conditions text =
+    angle_conditions text 4 180 east west ++
+    angle_conditions text 12 90 north south ++
+    lattice_conditions text
 
 -- the origin is no corner of a square
 abbrev pub is_off_degree : List ℕ → Bool
@@ -69,12 +125,14 @@ is_off_degree text = not (is_whole text 4 && is_whole text 12) || degrees_north 
 -- the latitude interval is no level's, or the longitude interval is not that of its level and zone
 abbrev pub has_wrong_spacing : List ℕ → Bool
 has_wrong_spacing text =
-    not (is_some (level_of_interval (number_at text 24 28))) || not (number_at text 20 24 == 10 * lon_step_of (square_at text) (level_at text))
+    not (is_some (level_of_interval (number_at text 24 28))) ||
+    not (number_at text 20 24 == 10 * lon_step_of (square_at text) (level_at text))
 
 -- the counts are not the columns and rows of that level and zone
 abbrev pub has_wrong_counts : List ℕ → Bool
 has_wrong_counts text =
-    not (number_at text 47 51 == columns_of (square_at text) (level_at text)) || not (number_at text 51 55 == rows_of (level_at text))
+    not (number_at text 47 51 == columns_of (square_at text) (level_at text)) ||
+    not (number_at text 51 55 == rows_of (level_at text))
 
 unfoldable pub shape_conditions : List ℕ → List (Option CellRefusal)
 shape_conditions text =
@@ -113,13 +171,15 @@ abbrev pub record_conditions : List ℕ → ℕ → ℕ → List (Option CellRef
 record_conditions text rows col =
     (BadSentinel col when not (slice_index text (record_at rows col) == 170)) ∷
     (BadColumn col when not (longitude_count text rows col == col)) ∷
-    (BadChecksum col (stated_sum text rows col) (plain_sum text rows col) when not (stated_sum text rows col == plain_sum text rows col)) ∷
+    (BadChecksum col (stated_sum text rows col) (plain_sum text rows col) when
+    not (stated_sum text rows col == plain_sum text rows col)) ∷
     map (height_condition text rows col) (range_with_len 0 rows)
 
 -- the file ends before its last record does; then record by record, from the west on
 unfoldable pub data_conditions : List ℕ → ℕ → ℕ → List (Option CellRefusal)
 data_conditions bytes columns rows =
-    (TooShort (lead_of bytes + record_at rows columns) (length bytes) when is_shorter bytes (record_at rows columns)) ∷
+    (TooShort (lead_of bytes + record_at rows columns) (length bytes) when
+    is_shorter bytes (record_at rows columns)) ∷
     flat_map (record_conditions (text_of bytes) rows) (range_with_len 0 columns)
 
 -- ---- all of them, in order

@@ -3,11 +3,10 @@ ghost use Rattle.std.specs.Prelude.{◌≡◌, ◌↔◌, List, ℕ, Some, None,
 ghost use Rattle.dted_cell.specs.Cell.{IsSomeCell};
 ghost use Rattle.dted_cell.specs.Refusal.{refusal_of};
 
-use std::marker::Model;
-
 use crate::cell::read_cell;
 use crate::header::Header;
 use crate::{CellRefusal, CellView};
+use std::marker::Model;
 
 /// The bytes of a file that is a cell. It is seen as these bytes.
 #[derive(Drop)]

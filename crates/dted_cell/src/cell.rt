@@ -20,7 +20,10 @@ fn data_refusal(bytes: &[u8], header: &Header) -> Option<CellRefusal>
 {
     let need = header.lead + record_start(header.rows, header.columns);
     if bytes.len() < need {
-        return Some(CellRefusal::TooShort { need: need as u64, have: bytes.len() as u64 });
+        return Some(CellRefusal::TooShort {
+            need: need as u64,
+            have: bytes.len() as u64,
+        });
     }
     records_refusal(behind(bytes, header.lead), header.columns, header.rows)
 }

@@ -14,12 +14,20 @@ pub(crate) const VOID: u16 = 0xFFFF;
 pub(crate) fn signed(word: u16) -> i16
     ensures { result ≡ signed_of word }
 {
-    if word < 0x8000 { word as i16 } else { -((word - 0x8000) as i16) }
+    if word < 0x8000 {
+        word as i16
+    } else {
+        -((word - 0x8000) as i16)
+    }
 }
 
 /// The post that a word stands for.
 pub(crate) fn post(word: u16) -> Post
     ensures { result ≡ post_of word }
 {
-    if word == VOID { Post::Void } else { Post::Metres(signed(word)) }
+    if word == VOID {
+        Post::Void
+    } else {
+        Post::Metres(signed(word))
+    }
 }

@@ -4,7 +4,11 @@ ghost use Rattle.std.specs.Result.{result_err};
 ghost use Rattle.dted_cell.specs.Field.{number_at, is_number};
 ghost use Rattle.dted_cell.specs.Fields.{SaysAngle, SaysLattice, SaysFields};
 ghost use Rattle.dted_cell.specs.Refusal.{
-    ◌when◌, first_of, angle_conditions, lattice_conditions, field_conditions
+  ◌when◌,
+  first_of,
+  angle_conditions,
+  lattice_conditions,
+  field_conditions,
 };
 
 use crate::CellRefusal;
@@ -57,12 +61,22 @@ fn from_end(half: u16, degrees: u16, is_positive: bool) -> u16
     ensures value { result ≡ (if is_positive then half + degrees else (half - degrees)) }
     ensures in_range { result ≤ 2 * half }
 {
-    if is_positive { half + degrees } else { half - degrees }
+    if is_positive {
+        half + degrees
+    } else {
+        half - degrees
+    }
 }
 
 /// The angle at an offset, with one of two letters, or the refusal of its first bad field.
 #[tactic(auto, unfolding(crate::specs::Refusal::angle_conditions))]
-fn read_angle(text: &[u8], at: u16, half: u16, positive: u8, negative: u8) -> Result<Angle, CellRefusal>
+fn read_angle(
+    text: &[u8],
+    at: u16,
+    half: u16,
+    positive: u8,
+    negative: u8,
+) -> Result<Angle, CellRefusal>
     requires in_label { at + 8 ≤ 80 }
     requires within { 80 ≤ length text.now }
     requires small { half ≤ 180 }
@@ -80,7 +94,10 @@ fn read_angle(text: &[u8], at: u16, half: u16, positive: u8, negative: u8) -> Re
         return Err(CellRefusal::BadField { offset: at + 7 });
     }
     let degrees = from_end(half, degrees, letter == positive);
-    Ok(Angle { degrees, is_whole: minutes == 0 && seconds == 0 })
+    Ok(Angle {
+        degrees,
+        is_whole: minutes == 0 && seconds == 0,
+    })
 }
 
 /// The intervals and the counts, or the refusal of the first that is bad.
@@ -94,7 +111,12 @@ fn read_lattice(text: &[u8]) -> Result<Lattice, CellRefusal>
     let lat_interval = required(text, 24, 28)?;
     let columns = required(text, 47, 51)?;
     let rows = required(text, 51, 55)?;
-    Ok(Lattice { lon_interval, lat_interval, columns, rows })
+    Ok(Lattice {
+        lon_interval,
+        lat_interval,
+        columns,
+        rows,
+    })
 }
 
 /// The fields, or the refusal of the first that is bad.

@@ -1,21 +1,39 @@
 // The header of a cell.
 ghost use Rattle.std.specs.Prelude.{
-    ◌≡◌, ◌+◌, ◌*◌, ◌==◌, ◌<◌, ◌≤◌, ◌&&◌, ◌||◌, ◌++◌, length, not, Some, None, if◌then◌else◌, IfOk
+  ◌≡◌,
+  ◌+◌,
+  ◌*◌,
+  ◌==◌,
+  ◌<◌,
+  ◌≤◌,
+  ◌&&◌,
+  ◌||◌,
+  ◌++◌,
+  length,
+  not,
+  Some,
+  None,
+  if◌then◌else◌,
+  IfOk,
 };
 ghost use Rattle.std.specs.Result.{result_err};
 ghost use Rattle.terrain_base.specs.Level.{rows_of, columns_of};
 ghost use Rattle.dted_cell.specs.Fields.{SaysHeader};
 ghost use Rattle.dted_cell.specs.Header.{square_of, square_at, level_of_interval, level_at, series_of};
 ghost use Rattle.dted_cell.specs.Refusal.{
-    first_of, field_conditions, shape_conditions, label_conditions, text_conditions, header_conditions
+  first_of,
+  field_conditions,
+  shape_conditions,
+  label_conditions,
+  text_conditions,
+  header_conditions,
 };
-
-use terrain_base::{CellLevel, Square, columns, lon_step, rows};
 
 use crate::CellRefusal;
 use crate::field::has_word;
 use crate::fields::{Fields, read_fields};
 use crate::lead::{behind, lead};
+use terrain_base::{CellLevel, Square, columns, lon_step, rows};
 
 /// How many bytes the header has.
 pub(crate) const HEADER_LENGTH: usize = 3428;
@@ -40,16 +58,17 @@ fn square_from(lon: u16, lat: u16) -> Option<Square>
     if lat == 180 {
         return None;
     }
-    Some(Square { lat, lon: lon % 360 })
+    Some(Square {
+        lat,
+        lon: lon % 360,
+    })
 }
 
 /// The square at the origin, unless that is no corner of a square.
 fn square(fields: &Fields) -> Option<Square>
     requires { fields.now.lat.degrees ≤ 180 }
-    ensures {
-        result ≡ (if not (fields.now.lon.is_whole && fields.now.lat.is_whole) || fields.now.lat.degrees == 180
-        then None else Some (square_of fields.now.lon.degrees fields.now.lat.degrees))
-    }
+    ensures { result ≡ (if not (fields.now.lon.is_whole && fields.now.lat.is_whole) || fields.now.lat.degrees == 180
+        then None else Some (square_of fields.now.lon.degrees fields.now.lat.degrees)) }
 {
     if !(fields.lon.is_whole && fields.lat.is_whole) {
         return None;
@@ -179,5 +198,11 @@ fn header_of(lead: usize, shape: Shape) -> Header
     ensures rows { result.rows ≡ rows_of shape.level }
 {
     let Shape { square, level } = shape;
-    Header { lead, square, level, columns: columns(square, level), rows: rows(level) }
+    Header {
+        lead,
+        square,
+        level,
+        columns: columns(square, level),
+        rows: rows(level),
+    }
 }

@@ -15,6 +15,9 @@ mod refusal;
 mod trouble;
 mod view;
 
+#[cfg(test)]
+mod tests;
+
 pub use bytes::{CellBytes, RefusedCell};
 pub use profile::ProfileView;
 pub use refusal::CellRefusal;

@@ -2,11 +2,10 @@
 ghost use Rattle.std.specs.Prelude.{◌≡◌, ◌+◌, ◌*◌, ◌≤◌, length};
 ghost use Rattle.dted_cell.specs.Cell.{post_of_row, is_void_post};
 
-use std::marker::Model;
-use terrain_base::Post;
-
 use crate::elevation::{VOID, post};
 use crate::field::word;
+use std::marker::Model;
+use terrain_base::Post;
 
 /// The elevations of a column, where they lie. It is seen as their bytes: two for each row, from the
 /// south on, a sign bit and 15 bits of metres, the highest first.

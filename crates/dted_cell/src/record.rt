@@ -1,12 +1,24 @@
 // The data records.
 ghost use Rattle.std.specs.Prelude.{
-    ◌≡◌, ◌+◌, ◌*◌, ◌^◌, ◌<◌, ◌≤◌, length, map, flat_map, sum
+  ◌≡◌,
+  ◌+◌,
+  ◌*◌,
+  ◌^◌,
+  ◌<◌,
+  ◌≤◌,
+  length,
+  map,
+  flat_map,
+  sum,
 };
 ghost use Rattle.std.specs.List.{range_with_len};
 ghost use Rattle.dted_cell.specs.Elevation.{signed_of, is_out_of_range};
 ghost use Rattle.dted_cell.specs.Record.{record_at, elevation_at};
 ghost use Rattle.dted_cell.specs.Refusal.{
-    ◌when◌, first_of, height_condition, record_conditions
+  ◌when◌,
+  first_of,
+  height_condition,
+  record_conditions,
 };
 
 use crate::CellRefusal;
@@ -26,7 +38,11 @@ fn height_refusal(word: u16, col: u16, row: u16) -> Option<CellRefusal>
     ensures { result ≡ (CellRefusal.HeightOutOfRange col row (signed_of word) when is_out_of_range word) }
 {
     if word != VOID && word % 0x8000 > HIGHEST {
-        Some(CellRefusal::HeightOutOfRange { col, row, value: signed(word) })
+        Some(CellRefusal::HeightOutOfRange {
+            col,
+            row,
+            value: signed(word),
+        })
     } else {
         None
     }
@@ -71,7 +87,11 @@ fn record_refusal(text: &[u8], rows: u16, col: u16) -> Option<CellRefusal>
     let stated = long(text, end);
     let sum = summed(&text[start..end]);
     if stated != sum {
-        return Some(CellRefusal::BadChecksum { col, stated, summed: sum });
+        return Some(CellRefusal::BadChecksum {
+            col,
+            stated,
+            summed: sum,
+        });
     }
     heights_refusal(text, rows, col)
 }

@@ -4,14 +4,26 @@ ghost use Rattle.std.specs.Result.{result_err};
 ghost use Rattle.dted_cell.specs.Lead.{text_of};
 ghost use Rattle.dted_cell.specs.Record.{record_at};
 ghost use Rattle.dted_cell.specs.Cell.{
-    IsCell, IsSomeCell, square_in, level_in, columns_in, rows_in, post_in, profile_in, post_of_row, column_in, posts_in,
-    is_void_post, voids_in, widened, extremes_in, IsAllVoid, BoundsPosts
+  IsCell,
+  IsSomeCell,
+  square_in,
+  level_in,
+  columns_in,
+  rows_in,
+  post_in,
+  profile_in,
+  post_of_row,
+  column_in,
+  posts_in,
+  is_void_post,
+  voids_in,
+  widened,
+  extremes_in,
+  IsAllVoid,
+  BoundsPosts,
 };
 ghost use Rattle.dted_cell.specs.Good.{IsGood};
 ghost use Rattle.dted_cell.specs.Refusal.{refusal_of};
-
-use std::marker::Model;
-use terrain_base::{CellLevel, Extremes, Post, Square};
 
 use crate::CellRefusal;
 use crate::cell::read_cell;
@@ -21,6 +33,8 @@ use crate::header::Header;
 use crate::lead::behind;
 use crate::profile::ProfileView;
 use crate::record::record_start;
+use std::marker::Model;
+use terrain_base::{CellLevel, Extremes, Post, Square};
 
 /// A cell, read where its bytes lie. It is seen as the bytes of its file.
 #[derive(Drop)]
@@ -45,9 +59,8 @@ impl<'a> CellView<'a> {
     pub fn read(bytes: &'a [u8]) -> Result<CellView<'a>, CellRefusal>
         ensures ok { IsOk result ↔ IsSomeCell bytes.now }
         ensures view { IfOk result (λ view. view ≡ bytes.now) }
-        ensures cell {
-            OnOk result (IsCell bytes.now (square_in bytes.now) (level_in bytes.now) (posts_in bytes.now))
-        }
+        ensures cell { OnOk result
+            (IsCell bytes.now (square_in bytes.now) (level_in bytes.now) (posts_in bytes.now)) }
         // It is the first whose condition holds, and there is none where the file is a cell.
         ensures refusal { result_err result ≡ refusal_of bytes.now }
     {
@@ -104,12 +117,7 @@ impl<'a> CellView<'a> {
     }
 
     /// What follows the lead.
-    #[tactic(
-        auto,
-        using(
-            crate::proofs::Views::view_lead, crate::proofs::Views::view_long, crate::proofs::Leads::lead_within
-        )
-    )]
+    #[tactic(auto, using(crate::proofs::Views::view_lead, crate::proofs::Views::view_long, crate::proofs::Leads::lead_within))]
     fn text(&self) -> &'a [u8]
         ensures text { result.now ≡ text_of self.now }
         ensures long { record_at (rows_in self.now) (columns_in self.now) ≤ length result.now }
@@ -122,7 +130,8 @@ impl<'a> CellView<'a> {
         requires { col < columns_in self.now }
         ensures bytes { result ≡ profile_in self.now col }
         ensures length { length result ≡ 2 * rows_in self.now }
-        ensures posts { (row : ℕ) → row < rows_in self.now → post_of_row result row ≡ post_in self.now col row }
+        ensures posts { (row : ℕ) → row < rows_in self.now →
+            post_of_row result row ≡ post_in self.now col row }
     {
         let text = self.text();
         let rows = self.rows();
@@ -191,11 +200,7 @@ impl<'a> CellView<'a> {
     }
 
     /// The same, by every post in turn.
-    #[tactic(
-        auto,
-        using(crate::proofs::Counts::fold_next),
-        unfolding(crate::specs::Cell::extremes_in, crate::specs::Cell::posts_in)
-    )]
+    #[tactic(auto, using(crate::proofs::Counts::fold_next), unfolding(crate::specs::Cell::extremes_in, crate::specs::Cell::posts_in))]
     fn extremes_of(&self) -> Option<Extremes>
         ensures { result ≡ extremes_in self.now }
     {
@@ -213,9 +218,15 @@ fn widen(extremes: Option<Extremes>, post: Post) -> Option<Extremes>
 {
     match (extremes, post) {
         (_, Post::Void) => extremes,
-        (None, Post::Metres(z)) => Some(Extremes { least: z, greatest: z }),
+        (None, Post::Metres(z)) => Some(Extremes {
+            least: z,
+            greatest: z,
+        }),
         (Some(e), Post::Metres(z)) => {
-            Some(Extremes { least: e.least.min(z), greatest: e.greatest.max(z) })
+            Some(Extremes {
+                least: e.least.min(z),
+                greatest: e.greatest.max(z),
+            })
         }
     }
 }

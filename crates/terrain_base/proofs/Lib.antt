@@ -7,5 +7,7 @@ pub mod Runs
 pub mod SquareOrder
 pub mod SquareTexts
 pub mod Stops
+pub mod StoreMeanings
 pub mod SureFiles
 pub mod TileNumbers
+pub mod TileOrder

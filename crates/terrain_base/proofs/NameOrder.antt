@@ -6,11 +6,9 @@ use Rattle.std.specs.Cmp.{IsTotalOrder}
 use Rattle.std.proofs.lemmas.Cmp.{nat_list_cmp_total, on_total}
 use Rattle.std.proofs.lemmas.Map.Lookups.{exact_bytes}
 use Rattle.std.specs.FinMap.{IsAntisymmetric}
-use Rattle.terrain_base.specs.declared.square.Square.{Square}
 use Rattle.terrain_base.specs.declared.tile.TileId.{TileId}
 use Rattle.terrain_base.specs.declared.name.Key.{Key}
 use Rattle.terrain_base.specs.declared.name.Key.TheVariants.{Manifest, Layer, Stage, Cell, Terrain, Note}
-use Rattle.terrain_base.specs.SquareText.{square_text}
 use Rattle.terrain_base.specs.Name.{tile_text, text_of, by_text}
 use Rattle.terrain_base.specs.NameParts.{stem_of, ending_of}
 use Rattle.terrain_base.proofs.SquareTexts.{square_cut}

@@ -1,5 +1,5 @@
 -- A name's text is told apart at its dot and its slashes.
-use Rattle.std.specs.Prelude.{◌≡◌, ◌≢◌, ℕ, zero, suc, ◌+◌, ◌-◌, ◌%◌, ◌^◌, ◌<◌, ◌==◌, Bool, true, false, nat_le, List, [], ◌∷◌, ◌++◌, Option, Some, None, IsSomeAnd, Result, Ok, Err, MatchResult, length, codes, decimal, refl}
+use Rattle.std.specs.Prelude.{◌≡◌, ◌≢◌, ℕ, zero, suc, ◌+◌, ◌%◌, ◌^◌, ◌<◌, Bool, true, false, nat_le, List, [], ◌∷◌, ◌++◌, Option, Some, None, IsSomeAnd, Result, Ok, Err, MatchResult, length, codes, decimal, refl}
 use Rattle.std.specs.Borrow.{Bor}
 use Rattle.std.proofs.Common.{arith, rules, ap, sym, ◌∙◌, append_assoc, length-append, subst}
 use Rattle.std.proofs.Math.Dec.{eqb}
@@ -12,7 +12,6 @@ use Rattle.std.specs.Str.Parse.{ParsesUnsigned}
 use Rattle.std.specs.Result.{result_ok}
 use Rattle.std.proofs.lemmas.Str.Pattern.{split_once_first, IsSplitOnceResult}
 use Rattle.std.specs.List.{AllByRecursion, position_or_len, before_first, after_first}
-use Rattle.terrain_base.specs.declared.square.Square.{Square}
 use Rattle.terrain_base.specs.declared.tile.TileId.{TileId}
 use Rattle.terrain_base.specs.declared.name.Key.{Key}
 use Rattle.terrain_base.specs.declared.name.Key.TheVariants.{Manifest, Layer, Stage, Cell, Terrain, Note}
@@ -32,11 +31,13 @@ Lacks c text = AllByRecursion (λ x. x ≢ c) text
 abbrev IsPlain : ℕ → Type 0
 IsPlain x = (x ≢ 46) × (x < 128)
 
-all-append : (P : ℕ → Type 0) (xs ys : List ℕ) → AllByRecursion P xs → AllByRecursion P ys → AllByRecursion P (xs ++ ys)
+all-append : (P : ℕ → Type 0) (xs ys : List ℕ) → AllByRecursion P xs → AllByRecursion P ys → AllByRecursion P
+    (xs ++ ys)
 all-append P [] ys p q = q
 all-append P (x ∷ xs) ys p q = (p.0, all-append P xs ys p.1 q)
 
-all-decimal : (P : ℕ → Type 0) → ((digit : ℕ) → digit < 10 → P (48 + digit)) → (n : ℕ) → n < 2 ^ 64 → AllByRecursion P (decimal n)
+all-decimal : (P : ℕ → Type 0) → ((digit : ℕ) → digit < 10 → P (48 + digit)) → (n : ℕ) → n < 2 ^ 64
+    → AllByRecursion P (decimal n)
 all-decimal P digit n fits =
     decimal_by_steps (λ n ds. AllByRecursion P ds) (λ n small. (digit n small, tt)) (λ n ds big p. all-append P ds _ p (digit (n % 10) (omega arith), tt)) n fits
 
@@ -125,14 +126,16 @@ cut_front c xs ys p = rw (cut_place c xs ys p) (take-append_seam xs (c ∷ ys))
 cut_rest : (c : ℕ) (xs ys : List ℕ) → Lacks c xs → after_first (λ b. eqb b c) (xs ++ c ∷ ys) ≡ ys
 cut_rest c xs ys p = rw (cut_place c xs ys p) (drop-append-add xs (c ∷ ys) 1)
 
-pub cut : (c : ℕ) (xs ys cs ds : List ℕ) → Lacks c xs → Lacks c ys → xs ++ c ∷ cs ≡ ys ++ c ∷ ds → (xs ≡ ys) × (cs ≡ ds)
+pub cut : (c : ℕ) (xs ys cs ds : List ℕ) → Lacks c xs → Lacks c ys → xs ++ c ∷ cs ≡ ys ++ c ∷ ds → (xs ≡ ys) ×
+    (cs ≡ ds)
 cut c xs ys cs ds p q e = (
   sym (cut_front c xs cs p) ∙ ap (before_first (λ b. eqb b c)) e ∙ cut_front c ys ds q,
   sym (cut_rest c xs cs p) ∙ ap (after_first (λ b. eqb b c)) e ∙ cut_rest c ys ds q,
 )
 
 -- `split_once` finds the cut
-pub split_found : (c : ℕ) (xs ys bs : List ℕ) (r : Option (Bor (List ℕ) × Bor (List ℕ))) → IsSplitOnceResult c bs r → c < 128 → Lacks c xs → bs ≡ xs ++ c ∷ ys → IsSomeAnd r (λ x. (x.0.now ≡ xs) × (x.1.now ≡ ys))
+pub split_found : (c : ℕ) (xs ys bs : List ℕ) (r : Option (Bor (List ℕ) × Bor (List ℕ))) → IsSplitOnceResult c bs r
+    → c < 128 → Lacks c xs → bs ≡ xs ++ c ∷ ys → IsSomeAnd r (λ x. (x.0.now ≡ xs) × (x.1.now ≡ ys))
 split_found c xs ys bs None is small p e =
     let none : position_or_len (λ b. eqb b c) bs ≡ length bs = split_once_first c bs None is small in
     let here : position_or_len (λ b. eqb b c) bs ≡ length xs = ap (position_or_len (λ b. eqb b c)) e ∙ cut_place c xs ys p in
@@ -143,22 +146,31 @@ split_found c xs ys bs (Some x) is small p e =
 
 -- ---- what the reader finds
 
-pub utf8_found : {E : Type 0} (Q : E → Type 0) (key : Key) (bytes : List ℕ) (r : Result (Bor (List ℕ)) E) (o : Option (Bor (List ℕ))) → MatchResult r (λ text. (text.now ≡ bytes) × IsUtf8 bytes) (λ e. (¬ (IsUtf8 bytes)) × Q e) → o ≡ result_ok r → bytes ≡ text_of key → IsSomeAnd o (λ text. text.now ≡ text_of key)
+pub utf8_found : {E : Type 0} (Q : E → Type 0) (key : Key) (bytes : List ℕ) (r : Result (Bor (List ℕ)) E)
+    (o : Option (Bor (List ℕ))) → MatchResult r (λ text. (text.now ≡ bytes) × IsUtf8 bytes)
+    (λ e. (¬ (IsUtf8 bytes)) × Q e) → o ≡ result_ok r → bytes ≡ text_of key → IsSomeAnd o
+    (λ text. text.now ≡ text_of key)
 utf8_found Q key bytes (Ok text) o is by e = rw by (is.0 ∙ e)
 utf8_found Q key bytes (Err f) o is by e = absurd (is.0 (subst IsUtf8 (sym e) (IsUtf8-from_ascii _ (IsAscii-text key))))
 
-pub stem_found : (key : Key) (text : List ℕ) (r : Option (Bor (List ℕ) × Bor (List ℕ))) → IsSplitOnceResult 46 text r → text ≡ text_of key → IsSomeAnd r (λ x. (x.0.now ≡ stem_of key) × (x.1.now ≡ ending_of key))
+pub stem_found : (key : Key) (text : List ℕ) (r : Option (Bor (List ℕ) × Bor (List ℕ))) → IsSplitOnceResult 46 text r
+    → text ≡ text_of key → IsSomeAnd r (λ x. (x.0.now ≡ stem_of key) × (x.1.now ≡ ending_of key))
 stem_found key text r is e = split_found 46 (stem_of key) (ending_of key) text r is (omega arith) (lacks-stem key) (e ∙ parts_of key)
 
 -- `split_once` finds a tile's level, then its column
-pub level_found : (tile : TileId) (text : List ℕ) (r : Option (Bor (List ℕ) × Bor (List ℕ))) → IsSplitOnceResult 47 text r → text ≡ tile_text tile → IsSomeAnd r (λ x. (x.0.now ≡ decimal tile.z) × (x.1.now ≡ decimal tile.x ++ 47 ∷ decimal tile.y))
+pub level_found : (tile : TileId) (text : List ℕ) (r : Option (Bor (List ℕ) × Bor (List ℕ)))
+    → IsSplitOnceResult 47 text r → text ≡ tile_text tile → IsSomeAnd r
+    (λ x. (x.0.now ≡ decimal tile.z) × (x.1.now ≡ decimal tile.x ++ 47 ∷ decimal tile.y))
 level_found tile text r is e = let small = small_z tile in split_found 47 _ _ text r is (omega arith) (lacks-decimal tile.z (omega arith)) e
 
-pub column_found : (tile : TileId) (text : List ℕ) (r : Option (Bor (List ℕ) × Bor (List ℕ))) → IsSplitOnceResult 47 text r → text ≡ decimal tile.x ++ 47 ∷ decimal tile.y → IsSomeAnd r (λ x. (x.0.now ≡ decimal tile.x) × (x.1.now ≡ decimal tile.y))
+pub column_found : (tile : TileId) (text : List ℕ) (r : Option (Bor (List ℕ) × Bor (List ℕ)))
+    → IsSplitOnceResult 47 text r → text ≡ decimal tile.x ++ 47 ∷ decimal tile.y → IsSomeAnd r
+    (λ x. (x.0.now ≡ decimal tile.x) × (x.1.now ≡ decimal tile.y))
 column_found tile text r is e = let small = small_x tile in split_found 47 _ _ text r is (omega arith) (lacks-decimal tile.x (omega arith)) e
 
 -- a number's text is read back
-pub parse_found : {E : Type 0} (bits n : ℕ) (text : List ℕ) (r : Result ℕ E) (o : Option ℕ) → n < 2 ^ bits → n < 2 ^ 64 → text ≡ decimal n → ParsesUnsigned bits 10 text r → o ≡ result_ok r → o ≡ Some n
+pub parse_found : {E : Type 0} (bits n : ℕ) (text : List ℕ) (r : Result ℕ E) (o : Option ℕ) → n < 2 ^ bits
+    → n < 2 ^ 64 → text ≡ decimal n → ParsesUnsigned bits 10 text r → o ≡ result_ok r → o ≡ Some n
 parse_found bits n text r o fits small e parses is = is ∙ ap result_ok (parse-decimal bits n text r fits small e parses)
 
 pub same_some : {A : Type 0} (o : Option A) (x y : A) → o ≡ Some x → o ≡ Some y → x ≡ y

@@ -27,7 +27,8 @@ mul_off k x y p h =
 
 -- one more of b
 pub mul_next : (q b : ℤ) → (q +ℤ pos 1) *ℤ b ≡ (q *ℤ b) +ℤ b
-mul_next q b = let e = sum_is_lem q (pos 1) in omega (arith, ints, ap (λ n. n * up b) e, ap (λ n. n * down b) e)
+mul_next q b = let e = sum_is_lem q (pos 1) in omega
+    (arith, ints, ap (λ n. n * up b) e, ap (λ n. n * down b) e)
 
 floor_by : (a : ℤ) (n : ℕ) → 0 < n → IsFloor a (pos n) (int_div_euclid a (pos n))
 floor_by (pos a) n p = record { low = omega (arith, ints); high = omega (arith, ints) }
@@ -46,7 +47,7 @@ pub floor_is : (a b : ℤ) → pos 0 <ℤ b → IsFloor a b (floor_of a b)
 unfolding floor_of
 floor_is a b p = euclid_floor a b p
 
-neg_mul : (a b : ℤ) → neg_ℤ a *ℤ b ≡ neg_ℤ (a *ℤ b)
+pub neg_mul : (a b : ℤ) → neg_ℤ a *ℤ b ≡ neg_ℤ (a *ℤ b)
 neg_mul (pos zero) b = omega (arith, ints)
 neg_mul (pos (suc n)) b = omega (arith, ints)
 neg_mul (negsuc n) b = omega (arith, ints)
@@ -62,7 +63,7 @@ unfolding ceil_of
 ceil_is a b p = ceil_from a b (int_div_euclid (neg_ℤ a) b) (euclid_floor (neg_ℤ a) b p)
 
 -- the greater of two whole quotients is at least one more of b
-apart : (n : ℕ) (q r : ℤ) → q <ℤ r → ((q *ℤ pos n) +ℤ pos n) ≤ℤ (r *ℤ pos n)
+pub apart : (n : ℕ) (q r : ℤ) → q <ℤ r → ((q *ℤ pos n) +ℤ pos n) ≤ℤ (r *ℤ pos n)
 apart n q r h = omega (arith, ints, mul_next q (pos n), mul_mono n (q +ℤ pos 1) r (omega (arith, ints, h)))
 
 floor_not_below : (a : ℤ) (n : ℕ) (q r : ℤ) → IsFloor a (pos n) q → IsFloor a (pos n) r → r ≤ℤ q
@@ -77,7 +78,13 @@ ceil_not_below a n q r f g = by_lt_z q r
 
 -- a number has one quotient rounded down, and one rounded up
 pub floor_once : (a b q r : ℤ) → pos 0 <ℤ b → IsFloor a b q → IsFloor a b r → q ≡ r
-floor_once a (pos n) q r p f g = omega (arith, ints, floor_not_below a n q r f g, floor_not_below a n r q g f)
+floor_once a (pos n) q r p f g = omega (
+  arith,
+  ints,
+  floor_not_below a n q r f g,
+  floor_not_below a n r q g
+      f,
+)
 floor_once a (negsuc n) q r p f g = absurd (omega (arith, ints))
 
 pub ceil_once : (a b q r : ℤ) → pos 0 <ℤ b → IsCeil a b q → IsCeil a b r → q ≡ r
@@ -94,7 +101,8 @@ left_is a (pos n) p = left_by a n (omega (arith, ints))
 left_is a (negsuc n) p = absurd (omega (arith, ints))
 
 -- rounded up, a quotient is one more where something is left, and else the same
-pub ceil_more : (a b : ℤ) → pos 0 <ℤ b → pos 0 <ℤ int_rem_euclid a b → IsCeil a b (int_div_euclid a b +ℤ pos 1)
+pub ceil_more : (a b : ℤ) → pos 0 <ℤ b → pos 0 <ℤ int_rem_euclid a b
+    → IsCeil a b (int_div_euclid a b +ℤ pos 1)
 ceil_more a b p r =
     let f = euclid_floor a b p in
     let e = left_is a b p in
@@ -106,7 +114,8 @@ ceil_more a b p r =
 
 pub ceil_same : (a b : ℤ) → pos 0 <ℤ b → pos 0 ≤ℤ int_rem_euclid a b → int_rem_euclid a b ≤ℤ pos 0
     → IsCeil a b (int_div_euclid a b)
-ceil_same a b p l h = let e = left_is a b p in record { low = omega (arith, ints, e, l, h, p); high = omega (arith, ints, e, l, h) }
+ceil_same a b p l h = let e = left_is a b p in record
+    { low = omega (arith, ints, e, l, h, p); high = omega (arith, ints, e, l, h) }
 
 -- a lesser square is of a lesser number
 pub root_le : (x y : ℕ) → x * x ≤ y * y → x ≤ y
@@ -131,11 +140,13 @@ root_more n r h e = record { low = e; high = omega (arith, h.high) }
 root_same : (n r : ℕ) → IsRoot n r → suc n < (r + 1) * (r + 1) → IsRoot (suc n) r
 root_same n r h e = record { low = omega (arith, h.low); high = e }
 
-root_step : (n r : ℕ) → IsRoot n r → IsRoot (suc n) (if nat_le ((r + 1) * (r + 1)) (suc n) then r + 1 else r)
-root_step n r h = elim (nat_le ((r + 1) * (r + 1)) (suc n)) as (λ b. nat_le ((r + 1) * (r + 1)) (suc n) ≡ b → IsRoot (suc n) (if b then r + 1 else r)) [
-  | true ↦ λ e. root_more n r h (grind (arith, nat_tests, e))
-  | false ↦ λ e. root_same n r h (grind (arith, nat_tests, e))
-] refl
+root_step : (n r : ℕ) → IsRoot n r
+    → IsRoot (suc n) (if nat_le ((r + 1) * (r + 1)) (suc n) then r + 1 else r)
+root_step n r h = elim (nat_le ((r + 1) * (r + 1)) (suc n)) as
+    (λ b. nat_le ((r + 1) * (r + 1)) (suc n) ≡ b → IsRoot (suc n) (if b then r + 1 else r)) [
+      | true ↦ λ e. root_more n r h (grind (arith, nat_tests, e))
+      | false ↦ λ e. root_same n r h (grind (arith, nat_tests, e))
+    ] refl
 
 pub root_is : (n : ℕ) → IsRoot n (root_of n)
 unfolding root_of

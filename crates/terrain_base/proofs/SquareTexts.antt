@@ -29,24 +29,28 @@ lon_case east lon = if east then codes "e" ++ three_digits (lon - 180) else (cod
 abbrev two_at : List ℕ → ℕ → ℕ
 two_at bytes i = 10 * (get_or bytes i 0 - 48) + (get_or bytes (i + 1) 0 - 48)
 
-north_case : (a b : Bool) (m n : ℕ) → m < 180 → nat_le 90 m ≡ a → get_or (lat_case a m ++ lon_case b n) 0 0 ≡ 110 → 90 + two_at (lat_case a m ++ lon_case b n) 1 ≡ m
+north_case : (a b : Bool) (m n : ℕ) → m < 180 → nat_le 90 m ≡ a → get_or (lat_case a m ++ lon_case b n) 0 0 ≡ 110
+    → 90 + two_at (lat_case a m ++ lon_case b n) 1 ≡ m
 north_case true b m n h p is = let le : 90 ≤ m = leb-true _ _ p in omega arith
 north_case false b m n h p is = absurd (omega arith)
 
-south_case : (a b : Bool) (m n : ℕ) → m < 180 → nat_le 90 m ≡ a → get_or (lat_case a m ++ lon_case b n) 0 0 ≢ 110 → 90 - two_at (lat_case a m ++ lon_case b n) 1 ≡ m
+south_case : (a b : Bool) (m n : ℕ) → m < 180 → nat_le 90 m ≡ a → get_or (lat_case a m ++ lon_case b n) 0 0 ≢ 110
+    → 90 - two_at (lat_case a m ++ lon_case b n) 1 ≡ m
 south_case true b m n h p is = absurd (is refl)
 south_case false b m n h p is = let lt : m < 90 = leb-false _ _ p in omega arith
 
 abbrev three_at : List ℕ → ℕ
 three_at bytes = 100 * (get_or bytes 4 0 - 48) + 10 * (get_or bytes 5 0 - 48) + (get_or bytes 6 0 - 48)
 
-east_case : (a b : Bool) (m n : ℕ) → n < 360 → nat_le 180 n ≡ b → get_or (lat_case a m ++ lon_case b n) 3 0 ≡ 101 → 180 + three_at (lat_case a m ++ lon_case b n) ≡ n
+east_case : (a b : Bool) (m n : ℕ) → n < 360 → nat_le 180 n ≡ b → get_or (lat_case a m ++ lon_case b n) 3 0 ≡ 101
+    → 180 + three_at (lat_case a m ++ lon_case b n) ≡ n
 east_case true true m n h p is = let le : 180 ≤ n = leb-true _ _ p in omega arith
 east_case false true m n h p is = let le : 180 ≤ n = leb-true _ _ p in omega arith
 east_case true false m n h p is = absurd (omega arith)
 east_case false false m n h p is = absurd (omega arith)
 
-west_case : (a b : Bool) (m n : ℕ) → n < 360 → nat_le 180 n ≡ b → get_or (lat_case a m ++ lon_case b n) 3 0 ≢ 101 → 180 - three_at (lat_case a m ++ lon_case b n) ≡ n
+west_case : (a b : Bool) (m n : ℕ) → n < 360 → nat_le 180 n ≡ b → get_or (lat_case a m ++ lon_case b n) 3 0 ≢ 101
+    → 180 - three_at (lat_case a m ++ lon_case b n) ≡ n
 west_case true true m n h p is = absurd (is refl)
 west_case false true m n h p is = absurd (is refl)
 west_case true false m n h p is = let lt : n < 180 = leb-false _ _ p in omega arith
@@ -64,13 +68,15 @@ east_of bytes s e is = rw e (east_case _ _ s.lat s.lon s.lon_in_range refl (rw e
 pub west_of : (bytes : List ℕ) (s : Square) → bytes ≡ square_text s → get_or bytes 3 0 ≢ 101 → 180 - three_at bytes ≡ s.lon
 west_of bytes s e is = rw e (west_case _ _ s.lat s.lon s.lon_in_range refl (rw e at is))
 
-pub square_found : (o : Option Square) (lat lon : ℕ) (s : Square) → (IsSome o ↔ ((lon < 360) × (lat < 180))) → IfSome o (λ square. (square.lon ≡ lon) × (square.lat ≡ lat)) → lat ≡ s.lat → lon ≡ s.lon → o ≡ Some s
+pub square_found : (o : Option Square) (lat lon : ℕ) (s : Square) → (IsSome o ↔ ((lon < 360) × (lat < 180)))
+    → IfSome o (λ square. (square.lon ≡ lon) × (square.lat ≡ lat)) → lat ≡ s.lat → lon ≡ s.lon → o ≡ Some s
 square_found None lat lon s some value p q = let none : ◌≡◌ {A = Bool} false true = some.1 (omega (arith, s.lon_in_range), omega (arith, s.lat_in_range)) in absurd (cc)
 square_found (Some t) lat lon s some value p q = ap Some (same_square t s (value.1 ∙ p) (value.0 ∙ q))
 
 -- ---- different squares have different texts
 
-lat_cut : (a b : Bool) (m n : ℕ) (r s : List ℕ) → m < 180 → n < 180 → nat_le 90 m ≡ a → nat_le 90 n ≡ b → lat_case a m ++ r ≡ lat_case b n ++ s → (m ≡ n) × (r ≡ s)
+lat_cut : (a b : Bool) (m n : ℕ) (r s : List ℕ) → m < 180 → n < 180 → nat_le 90 m ≡ a → nat_le 90 n ≡ b
+    → lat_case a m ++ r ≡ lat_case b n ++ s → (m ≡ n) × (r ≡ s)
 lat_cut true true m n r s hm hn p q e =
     let tens : digit_of ((m - 90) / 10) ≡ digit_of ((n - 90) / 10) = cc in
     let units : digit_of (m - 90) ≡ digit_of (n - 90) = cc in
@@ -86,7 +92,8 @@ lat_cut false false m n r s hm hn p q e =
     let ln : n < 90 = leb-false _ _ q in
     (omega arith, cc)
 
-lon_cut : (a b : Bool) (m n : ℕ) (r s : List ℕ) → m < 360 → n < 360 → nat_le 180 m ≡ a → nat_le 180 n ≡ b → lon_case a m ++ r ≡ lon_case b n ++ s → (m ≡ n) × (r ≡ s)
+lon_cut : (a b : Bool) (m n : ℕ) (r s : List ℕ) → m < 360 → n < 360 → nat_le 180 m ≡ a → nat_le 180 n ≡ b
+    → lon_case a m ++ r ≡ lon_case b n ++ s → (m ≡ n) × (r ≡ s)
 lon_cut true true m n r s hm hn p q e =
     let hundreds : digit_of ((m - 180) / 100) ≡ digit_of ((n - 180) / 100) = cc in
     let tens : digit_of ((m - 180) / 10) ≡ digit_of ((n - 180) / 10) = cc in

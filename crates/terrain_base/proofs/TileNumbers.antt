@@ -39,7 +39,9 @@ short_y t = let small = small_y t in length-decimal-le 5 t.y (omega arith) (omeg
 pub short_x : (t : TileId) → length (decimal t.x) ≤ 5
 short_x t = let small = small_x t in length-decimal-le 5 t.x (omega arith) (omega arith) (omega arith)
 
-pub tile_found : (o : Option TileId) (z x y : ℕ) (t : TileId) → (IsSome o ↔ ((z ≤ 14) × (x < 2 ^ (z + 1)) × (y < 2 ^ z))) → IfSome o (λ tile. (tile.z ≡ z) × (tile.x ≡ x) × (tile.y ≡ y)) → z ≡ t.z → x ≡ t.x → y ≡ t.y → o ≡ Some t
+pub tile_found : (o : Option TileId) (z x y : ℕ) (t : TileId)
+    → (IsSome o ↔ ((z ≤ 14) × (x < 2 ^ (z + 1)) × (y < 2 ^ z))) → IfSome o
+    (λ tile. (tile.z ≡ z) × (tile.x ≡ x) × (tile.y ≡ y)) → z ≡ t.z → x ≡ t.x → y ≡ t.y → o ≡ Some t
 tile_found None z x y t some value p q r =
     let none : ◌≡◌ {A = Bool} false true = some.1 (subst (λ z. z ≤ 14) (sym p) t.z_in_range, rw (p, q) t.x_in_range, rw (p, r) t.y_in_range) in
     absurd (cc)

@@ -17,6 +17,8 @@ pub mod Sink
 pub mod SquareOrder
 pub mod SquareText
 pub mod Step
+pub mod StoreLaws
 pub mod SureStore
 pub mod Text
+pub mod TileOrder
 pub mod Work

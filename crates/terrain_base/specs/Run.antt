@@ -14,12 +14,14 @@ log_after [] log = log
 log_after (step ∷ steps) log = log_after steps (logged_after step log)
 
 -- All of the steps are done.
-pub record AllDone (steps : List Step) (files : Option Files) (log : Option (List Change)) (files' : Option Files) (log' : Option (List Change)) : Type 0 where
+pub record AllDone (steps : List Step) (files : Option Files) (log : Option (List Change))
+    (files' : Option Files) (log' : Option (List Change)) : Type 0 where
   pub held : files' ≡ files_after steps files
   pub logged : log' ≡ log_after steps log
 
 -- Some first steps are done and some are in the log, as many or one more or less.
-pub record SomeDone (steps : List Step) (files : Option Files) (log : Option (List Change)) (files' : Option Files) (log' : Option (List Change)) : Type 0 where
+pub record SomeDone (steps : List Step) (files : Option Files) (log : Option (List Change))
+    (files' : Option Files) (log' : Option (List Change)) : Type 0 where
   pub done : ℕ
   pub noted : ℕ
   pub done_of : done ≤ length steps
@@ -30,6 +32,7 @@ pub record SomeDone (steps : List Step) (files : Option Files) (log : Option (Li
   pub logged : log' ≡ log_after (take noted steps) log
 
 -- After Ok all of the steps are done, after an error some first ones.
-pub record Ran {T E : Type 0} (steps : List Step) (files : Option Files) (log : Option (List Change)) (files' : Option Files) (log' : Option (List Change)) (result : Result T E) : Type 0 where
+pub record Ran {T E : Type 0} (steps : List Step) (files : Option Files) (log : Option (List Change))
+    (files' : Option Files) (log' : Option (List Change)) (result : Result T E) : Type 0 where
   pub ok : OnOk result (AllDone steps files log files' log')
   pub err : OnErr result (SomeDone steps files log files' log')

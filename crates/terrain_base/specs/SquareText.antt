@@ -14,11 +14,13 @@ three_digits n = digit_of (n / 100) ∷ digit_of (n / 10) ∷ digit_of n ∷ []
 
 -- north of the equator `n` and the degrees north of it, else `s` and the degrees south of it
 abbrev pub lat_text : ℕ → List ℕ
-lat_text lat = if nat_le 90 lat then codes "n" ++ two_digits (lat - 90) else (codes "s" ++ two_digits (90 - lat))
+lat_text lat =
+    if nat_le 90 lat then codes "n" ++ two_digits (lat - 90) else (codes "s" ++ two_digits (90 - lat))
 
 -- east of Greenwich `e` and the degrees east of it, else `w` and the degrees west of it
 abbrev pub lon_text : ℕ → List ℕ
-lon_text lon = if nat_le 180 lon then codes "e" ++ three_digits (lon - 180) else (codes "w" ++ three_digits (180 - lon))
+lon_text lon =
+    if nat_le 180 lon then codes "e" ++ three_digits (lon - 180) else (codes "w" ++ three_digits (180 - lon))
 
 abbrev pub square_text : Square → List ℕ
 square_text square = lat_text square.lat ++ lon_text square.lon

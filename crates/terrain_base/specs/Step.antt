@@ -40,7 +40,8 @@ logged_after step None = None
 logged_after step (Some log) = Some (log ++ change_of step ∷ [])
 
 -- After Ok the step is done. After an error it is done or not. It is in the log, except maybe where memory ran out.
-pub record Does {T : Type 0} (step : Step) (files : Option Files) (log : Option (List Change)) (files' : Option Files) (log' : Option (List Change)) (result : Result T DeviceFault) : Type 0 where
+pub record Does {T : Type 0} (step : Step) (files : Option Files) (log : Option (List Change))
+    (files' : Option Files) (log' : Option (List Change)) (result : Result T DeviceFault) : Type 0 where
   pub ok : OnOk result (files' ≡ held_after step files)
   pub err : OnErr result ((files' ≡ files) ⊎ (files' ≡ held_after step files))
   pub logged : (log' ≡ logged_after step log) ⊎ (IsErrOf result NoMemory × (log' ≡ log))

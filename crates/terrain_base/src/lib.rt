@@ -24,6 +24,8 @@ mod summary;
 mod sure_library;
 mod sure_sink;
 mod sure_store;
+#[cfg(test)]
+mod tests;
 mod text;
 mod tile;
 mod work;

@@ -21,6 +21,7 @@ impl SureStore {
     pub fn new(alloc: Global) -> SureStore
         ensures empty { ⟦<SureStore as Store>⟧.holds result ≡ Some map.empty }
         ensures unlogged { ⟦<SureStore as Store>⟧.log result ≡ Some [] }
+        ensures faultless { ⟦<SureStore as Store>⟧.faults result ≡ 0 }
     {
         SureStore {
             alloc,

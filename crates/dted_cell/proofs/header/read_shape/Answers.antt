@@ -1,4 +1,4 @@
-use Rattle.std.proofs.Common.{◌≡◌, ℕ, ◌*◌, ◌||◌, ◌==◌, not, true, refl, sym, ap, ◌∙◌}
+use Rattle.std.proofs.Common.{◌≡◌, ◌*◌, ◌||◌, ◌==◌, not, true, refl, sym, ap, ◌∙◌}
 use Rattle.terrain_base.specs.Level.{columns_of, rows_of}
 use Rattle.dted_cell.proofs.Shapes.{off_by, square_by, no_level, level_is, spacing_is, counts_are, differs, agrees, or_first, or_second, off_stands, spacing_stands, counts_stand, none_stands}
 use Rattle.dted_cell.proofs.header.read_shape.Goals as goal
@@ -46,7 +46,7 @@ returns-clause-refusal c =
     let spacing = spacing_is text c.in_ok-fields.fields fields.says c.in-Some.square c.in-Some-level.level square.1 c.in-Some-level.ensures in
     let counts = counts_are text c.in_ok-fields.fields fields.says c.in-Some.square c.in-Some-level.level square.1 c.in-Some-level.ensures in
     sym (none_stands text fields.refusal square.0 (sym spacing ∙ agrees _ _ (c.if-fields-lon_step.false ∙ ap (λ n. 10 * n) c.lon_step.ensures))
-      (sym counts ∙ rw (agrees _ _ (c.if-fields-columns.false ∙ c.columns.ensures), agrees _ _ (c.if-fields-rows.false ∙ c.rows.ensures)) refl))
+    (sym counts ∙ rw (agrees _ _ (c.if-fields-columns.false ∙ c.columns.ensures), agrees _ _ (c.if-fields-rows.false ∙ c.rows.ensures)) refl))
 
 pub returns-clause-square : goal.returns-clause-square
 returns-clause-square c = (square_by c.args.text.now c.in_ok-fields.fields c.in_ok-fields.ensures.says c.in-Some.square c.in-Some.ensures).1

@@ -5,13 +5,9 @@ pub returns-clause-accepted : goal.returns-clause-accepted
 returns-clause-accepted c = cell_by
 
 pub returns-clause-unrefused : goal.returns-clause-unrefused
-returns-clause-unrefused c bytes square level posts cell = (by_cell bytes square level posts cell).accepted
+returns-clause-unrefused c bytes (square, level, posts, cell) = (by_cell bytes square level posts cell).accepted
 
-pub returns-clause-square : goal.returns-clause-square
-returns-clause-square c bytes square level posts cell = (by_cell bytes square level posts cell).square_is
-
-pub returns-clause-level : goal.returns-clause-level
-returns-clause-level c bytes square level posts cell = (by_cell bytes square level posts cell).level_is
-
-pub returns-clause-posts : goal.returns-clause-posts
-returns-clause-posts c bytes square level posts cell = (by_cell bytes square level posts cell).posts_are
+pub returns-clause-only : goal.returns-clause-only
+returns-clause-only c bytes square level posts cell =
+    let found = by_cell bytes square level posts cell in
+    (found.square_is, found.level_is, found.posts_are)

@@ -1,4 +1,3 @@
-use Rattle.std.proofs.Common.{◌≡◌, ◌∙◌}
 use Rattle.terrain_base.proofs.NameTexts.{utf8_found, stem_found}
 use Rattle.terrain_base.proofs.read_name.guess.Goals as goal
 

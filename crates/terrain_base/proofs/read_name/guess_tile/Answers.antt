@@ -1,4 +1,4 @@
-use Rattle.std.proofs.Common.{arith, ◌≡◌, ◌∙◌, Some, sym}
+use Rattle.std.proofs.Common.{arith}
 use Rattle.terrain_base.proofs.NameTexts.{level_found, column_found, parse_found, same_some, no_some}
 use Rattle.terrain_base.proofs.TileNumbers.{small_z, small_x, small_y, tile_found}
 use Rattle.terrain_base.proofs.read_name.guess_tile.Goals as goal

@@ -1,5 +1,4 @@
-use Rattle.std.proofs.Common.{◌≡◌, ◌+◌, ◌*◌, ◌≤◌, length, rules, sym, ap, ◌∙◌}
-use Rattle.dted_cell.specs.Record.{record_at}
+use Rattle.std.proofs.Common.{◌+◌, ◌*◌, ◌≤◌, length, rules, sym, ap, ◌∙◌}
 use Rattle.dted_cell.specs.Cell.{columns_in, post_of_row}
 use Rattle.dted_cell.proofs.Views.{profile_is, profile_post, start_fits}
 use Rattle.dted_cell.proofs.view.CellView.profile.Goals as goal
@@ -8,7 +7,7 @@ pub slice_bounds-of-end : goal.slice_bounds-of-end
 slice_bounds-of-end c =
     let long = rw (sym c.rows-rows.ensures) at c.text-text.ensures.long in
     let fits : c.record_start-start.result + 8 + 2 * c.rows-rows.result ≤ length c.text-text.result.now =
-      start_fits c.text-text.result.now c.record_start-start.result c.rows-rows.result (columns_in c.args.self.now) c.args.col long c.requires c.record_start-start.ensures in
+    start_fits c.text-text.result.now c.record_start-start.result c.rows-rows.result (columns_in c.args.self.now) c.args.col long c.requires c.record_start-start.ensures in
     search rules
 
 pub returns-clause-bytes : goal.returns-clause-bytes

@@ -1,0 +1,2 @@
+pub mod Significands
+pub mod Formats

@@ -1,0 +1,2 @@
+pub mod HeightCode
+pub mod HeightFrame

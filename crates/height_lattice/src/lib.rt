@@ -1,0 +1,10 @@
+//! Heights in whole metres as height codes of quantized-mesh-1.0, exactly: a metre takes a whole number of codes.
+#![tactic(auto)]
+
+mod height_code;
+mod height_frame;
+mod law;
+
+pub use height_code::{code, metres};
+pub use height_frame::{HeightFrame, frame};
+pub use law::{one_code, one_frame, one_height};

@@ -1,0 +1,15 @@
+pub mod Turns
+pub mod Tilings
+pub mod Sweeps
+pub mod Moves
+pub mod Frames
+pub mod Lines
+pub mod Rings
+pub mod ListWords
+pub mod Scales
+pub mod FanProof
+pub mod Affine
+pub mod Joins
+pub mod Strips
+pub mod StripProof
+pub mod Sizes

@@ -1,0 +1,91 @@
+use super::*;
+
+#[test]
+fn names_of_all_kinds_are_read_back(rt: HostRuntime) {
+    let square = Square::of(188, 137).expect(&rt, "a square");
+    let tile = TileId::of(14, 32767, 16383).expect(&rt, "a tile");
+    for (name, text) in [
+        (Name::manifest(), "manifest.txt"),
+        (Name::layer(), "layer.json"),
+        (Name::stage(), "stage.dt"),
+        (Name::cell(square), "cells/n47e008.dt"),
+        (Name::terrain(tile), "14/32767/16383.terrain"),
+        (Name::note(tile), "14/32767/16383.txt"),
+    ] {
+        assert_eq!(rt; name.bytes(), text.as_bytes());
+        assert!(rt; Name::read(text.as_bytes()) == Some(name), "{text}");
+    }
+}
+
+#[test]
+fn other_texts_are_no_names(rt: HostRuntime) {
+    for text in [
+        "",
+        "manifest",
+        "manifest.txt ",
+        "Stage.dt",
+        "n00e000.dt",
+        "cells/n00e000",
+        "cells/n0e000.dt",
+        "cells/n90e000.dt",
+        "cells/s00e000.dt",
+        "cells/s91e000.dt",
+        "cells/n00e180.dt",
+        "cells/n00w000.dt",
+        "cells/n00w181.dt",
+        "cells/n00e000.dt0",
+        "15/0/0.terrain",
+        "0/2/0.terrain",
+        "0/0/1.terrain",
+        "00/0/0.terrain",
+        "0/+1/0.terrain",
+        "0/0/0/0.terrain",
+        "0/0.terrain",
+        "0/0/0.txt ",
+        "0/0/0.json",
+    ] {
+        assert!(rt; Name::read(text.as_bytes()).is_none(), "{text}");
+    }
+}
+
+#[test]
+fn a_store_in_memory_keeps_files(rt: HostRuntime) {
+    let mut store = SureStore::new(rt.alloc());
+    store.put(&Name::stage(), b"old").expect(&rt, "memory");
+    store
+        .put(&Name::manifest(), b"manifest")
+        .expect(&rt, "memory");
+    store.put(&Name::stage(), b"new").expect(&rt, "memory");
+    let found = store.get(&Name::stage()).expect(&rt, "memory");
+    assert!(rt; matches!(&found, Some(bytes) if bytes.as_slice() == b"new".as_slice()));
+    store.delete(&Name::stage()).expect(&rt, "memory");
+    assert!(rt; store.get(&Name::stage()).expect(&rt, "memory").is_none());
+    assert!(rt; store.log().len() == 4);
+}
+
+#[test]
+fn names_are_told_in_the_order_of_their_bytes(rt: HostRuntime) {
+    let mut store = SureStore::new(rt.alloc());
+    for text in [
+        "stage.dt",
+        "2/0/0.terrain",
+        "manifest.txt",
+        "10/0/0.terrain",
+        "2/0/0.txt",
+    ] {
+        let name = Name::read(text.as_bytes()).expect(&rt, "a name");
+        store.put(&name, b"").expect(&rt, "memory");
+    }
+    let names = store.names().expect(&rt, "memory");
+    let texts = [
+        "10/0/0.terrain",
+        "2/0/0.terrain",
+        "2/0/0.txt",
+        "manifest.txt",
+        "stage.dt",
+    ];
+    assert_eq!(rt; names.len(), texts.len());
+    for (name, text) in names.iter().zip(texts) {
+        assert_eq!(rt; name.bytes(), text.as_bytes());
+    }
+}

@@ -1,0 +1,40 @@
+//! The program: it hands real files and standard output to the top call, and ends with its status.
+//!
+//! What stands here and in its two adapters is the trusted edge: each is proved against its trait, but
+//! no contract says what a real file or a real output does.
+#![tactic(auto)]
+
+mod folder_library;
+mod std_sink;
+
+use folder_library::FolderLibrary;
+use std::env;
+use std::io::ErrorKind;
+use std::process::ExitCode;
+use std::rt::Env;
+use std_sink::StdSink;
+use terrain_base::{NoMemory, SureStore, Work};
+use terrain_top::{Status, run};
+
+// The words that follow the program's own name. Words that are not UTF-8 are no command, as no words
+// are.
+fn words<R: Env + AllocGlobal>(rt: &R) -> Result<Vec<String>, NoMemory> {
+    match env::args(rt) {
+        Ok(args) => Ok(args.skip(1).collect(rt.alloc())?),
+        Err(error) if error.kind() == ErrorKind::OutOfMemory => Err(NoMemory),
+        Err(_) => Ok(Vec::new(rt.alloc())),
+    }
+}
+
+fn main(rt: HostRuntime) -> ExitCode {
+    let Ok(words) = words(&rt) else {
+        return ExitCode::from(Status::NoMemory.code());
+    };
+    let alloc = rt.alloc();
+    let mut store = SureStore::new(alloc);
+    let mut files = FolderLibrary::new(&rt);
+    let mut out = StdSink::new(&rt);
+    let mut work = Work::new();
+    let status = run(alloc, &words, &mut store, &mut files, &mut out, &mut work);
+    ExitCode::from(status.code())
+}

@@ -1,0 +1,32 @@
+-- The reply to `cell`.
+use Rattle.std.specs.Prelude.{ℕ, List, [], ◌∷◌, ◌++◌, length, codes, decimal, Option, Some, None, nat_lt, if◌then◌else◌}
+use Rattle.dted_cell.specs.declared.refusal.CellRefusal.{CellRefusal}
+use Rattle.dted_cell.specs.Refusal.{refusal_of}
+use Rattle.report_text.specs.Words.{joined}
+use Rattle.report_text.specs.Cell.{cell_line_of}
+use Rattle.report_text.specs.Refusal.{cell_refusal_of}
+use Rattle.terrain_top.specs.declared.status.Status.TheVariants.{Done, Refused}
+use Rattle.terrain_top.specs.Reply.{Reply}
+
+-- a refusal is one line
+abbrev pub refused : List ℕ → Reply
+refused cause = record { status = Refused; text = joined (codes "refused " ∷ cause ∷ codes "\n" ∷ []) }
+
+-- a good cell is told in one line
+abbrev pub read_reply_by : List ℕ → Option CellRefusal → Reply
+read_reply_by bytes None = record { status = Done; text = joined (cell_line_of bytes ∷ codes "\n" ∷ []) }
+read_reply_by bytes (Some refusal) = refused (cell_refusal_of refusal)
+
+abbrev pub read_reply : List ℕ → Reply
+read_reply bytes = read_reply_by bytes (refusal_of bytes)
+
+-- the most bytes that a cell's file may have
+abbrev pub cell_limit : ℕ
+cell_limit = 33554432
+
+-- by what the library holds under the file's name
+abbrev pub cell_reply : List ℕ → Option (List ℕ) → Reply
+cell_reply file None = refused (joined (codes "F1 absent " ∷ file ∷ []))
+cell_reply file (Some bytes) =
+    if nat_lt cell_limit (length bytes) then refused (joined (codes "F2 too long " ∷ file ∷ codes " limit " ∷ decimal cell_limit ∷ []))
+    else read_reply bytes

@@ -1,0 +1,6 @@
+pub mod Cell
+pub mod Meant
+pub mod Reply
+pub mod Status
+pub mod Top
+pub mod Words

@@ -1,0 +1,213 @@
+//! The worked examples of the command line, over libraries and sinks in memory.
+use crate::{Status, run};
+use std::alloc::{AllocError, Global};
+use std::test::Fail as Stopped;
+use terrain_base::{Fail, Library, MemLibrary, MemSink, SureLibrary, SureSink, SureStore, Work};
+
+// A level 0 cell: what its header says, how many meridians it has, and the word of all posts but one.
+#[derive(Clone, Copy)]
+struct Sample {
+    origin: &'static [u8; 16],
+    interval: &'static [u8; 4],
+    counts: &'static [u8; 8],
+    columns: u8,
+    word: u16,
+    other_at: (u8, u8),
+    other_word: u16,
+}
+
+const FLAT: Sample = Sample {
+    origin: b"0000000E0000000N",
+    interval: b"0300",
+    counts: b"01210121",
+    columns: 121,
+    word: 0,
+    other_at: (0, 0),
+    other_word: 0,
+};
+
+impl Sample {
+    fn header(&self, alloc: Global) -> Result<Vec<u8>, AllocError> {
+        let mut bytes = Vec::new(alloc);
+        bytes.extend_from_slice(b"UHL1")?;
+        bytes.extend_from_slice(self.origin)?;
+        bytes.extend_from_slice(self.interval)?;
+        bytes.extend_from_slice(b"0300")?;
+        bytes.resize(47, b' ')?;
+        bytes.extend_from_slice(self.counts)?;
+        bytes.resize(80, b' ')?;
+        bytes.extend_from_slice(b"DSI")?;
+        bytes.resize(139, b' ')?;
+        bytes.extend_from_slice(b"DTED0")?;
+        bytes.resize(224, b' ')?;
+        bytes.extend_from_slice(b"WGS84")?;
+        bytes.resize(728, b' ')?;
+        bytes.extend_from_slice(b"ACC")?;
+        bytes.resize(3428, b' ')?;
+        Ok(bytes)
+    }
+
+    fn record(&self, alloc: Global, column: u8) -> Result<Vec<u8>, AllocError> {
+        let mut bytes = [0xAA, 0, 0, column, 0, column, 0, 0].to_vec(alloc)?;
+        for row in 0..121u8 {
+            let word = if self.other_at == (column, row) { self.other_word } else { self.word };
+            bytes.extend_from_slice(&word.to_be_bytes())?;
+        }
+        let mut sum: u32 = 0;
+        for byte in &bytes {
+            sum = sum.wrapping_add(u32::from(*byte));
+        }
+        bytes.extend_from_slice(&sum.to_be_bytes())?;
+        Ok(bytes)
+    }
+
+    fn bytes(&self, alloc: Global) -> Result<Vec<u8>, AllocError> {
+        let mut bytes = self.header(alloc)?;
+        for column in 0..self.columns {
+            bytes.extend_from_slice(&self.record(alloc, column)?)?;
+        }
+        Ok(bytes)
+    }
+}
+
+fn words(alloc: Global, words: &[&str]) -> Result<Vec<String>, AllocError> {
+    let mut all = Vec::new(alloc);
+    for word in words {
+        all.push(String::from_str(alloc, word)?)?;
+    }
+    Ok(all)
+}
+
+// Runs `cell` over a library in memory that holds these bytes.
+fn cell(alloc: Global, bytes: &[u8], out: &mut SureSink) -> Result<Status, Stopped> {
+    let mut files = SureLibrary::new(alloc);
+    files.hold("cell.dt0", bytes)?;
+    let words = words(alloc, &[".", "cell", "cell.dt0"])?;
+    let mut store = SureStore::new(alloc);
+    let mut work = Work::new();
+    Ok(run(alloc, &words, &mut store, &mut files, out, &mut work))
+}
+
+#[test]
+fn cells_print_their_lines(rt: HostRuntime) -> Result<(), Stopped> {
+    let table = [
+        (FLAT, "n00e000 level 0 columns 121 rows 121 min 0 max 0 voids 0\n"),
+        (
+            Sample { origin: b"0000000E0900000S", interval: b"1800", counts: b"00210121", columns: 21, ..FLAT },
+            "s90e000 level 0 columns 21 rows 121 min 0 max 0 voids 0\n",
+        ),
+        (
+            Sample { other_at: (0, 0), other_word: 0xFFFF, ..FLAT },
+            "n00e000 level 0 columns 121 rows 121 min 0 max 0 voids 1\n",
+        ),
+        (
+            Sample { origin: b"0010000W0010000S", word: 0x8005, other_at: (120, 120), other_word: 0xBE80, ..FLAT },
+            "s01w001 level 0 columns 121 rows 121 min -16000 max -5 voids 0\n",
+        ),
+        (
+            Sample { origin: b"0010000W0010000S", word: 0x8005, other_at: (7, 3), other_word: 0x3E80, ..FLAT },
+            "s01w001 level 0 columns 121 rows 121 min -5 max 16000 voids 0\n",
+        ),
+        (
+            Sample { origin: b"1800000E0490000N", word: 0xFFFF, other_word: 0xFFFF, ..FLAT },
+            "n49w180 level 0 columns 121 rows 121 min - max - voids 14641\n",
+        ),
+        (
+            Sample { origin: b"1800000W0500000N", interval: b"0600", counts: b"00610121", columns: 61, word: 0x8000, other_at: (60, 0), other_word: 1 },
+            "n50w180 level 0 columns 61 rows 121 min 0 max 1 voids 0\n",
+        ),
+    ];
+    let alloc = rt.alloc();
+    for (sample, line) in &table {
+        let mut out = SureSink::new(alloc);
+        let status = cell(alloc, &sample.bytes(alloc)?, &mut out)?;
+        assert_eq!(rt; out.taken(), line.as_bytes());
+        assert_eq!(rt; status, Status::Done);
+    }
+    Ok(())
+}
+
+#[test]
+fn bad_files_are_refused_by_name_and_place(rt: HostRuntime) -> Result<(), Stopped> {
+    let alloc = rt.alloc();
+    let flat = FLAT.bytes(alloc)?;
+    let table = [
+        (3428, 0, 0, "refused C1 too short need 34162 have 3428\n"),
+        (34161, 0, 0, "refused C1 too short need 34162 have 34161\n"),
+        (100, 0, 0, "refused C1 too short need 3428 have 100\n"),
+        (34162, 11, b'X', "refused C3 bad field at 11\n"),
+        (34162, 33917, 1, "refused C13 bad checksum column 120 stated 410 summed 411\n"),
+    ];
+    for (length, at, byte, line) in table {
+        let mut bytes = flat.to_vec(alloc)?;
+        bytes.truncate(length);
+        if at > 0 && at < bytes.len() {
+            bytes[at] = byte;
+        }
+        let mut out = SureSink::new(alloc);
+        let status = cell(alloc, &bytes, &mut out)?;
+        assert_eq!(rt; out.taken(), line.as_bytes());
+        assert_eq!(rt; status, Status::Refused);
+    }
+    let mut led = b"HDR".to_vec(alloc)?;
+    led.resize(80, b' ')?;
+    led.extend_from_slice(&flat)?;
+    let mut out = SureSink::new(alloc);
+    assert_eq!(rt; cell(alloc, &led, &mut out)?, Status::Done);
+    assert_eq!(rt; out.taken(), b"n00e000 level 0 columns 121 rows 121 min 0 max 0 voids 0\n".as_slice());
+    Ok(())
+}
+
+#[test]
+fn absent_and_long_files_and_other_words_are_refused(rt: HostRuntime) -> Result<(), Stopped> {
+    let alloc = rt.alloc();
+    let mut files = SureLibrary::new(alloc);
+    files.hold("long", vec![in alloc; 0u8; 33_554_433]?.as_slice())?;
+    let usage = "usage: terrain DIR cell FILE\n";
+    let table = [
+        (words(alloc, &[".", "cell", "absent.dt0"])?, "refused F1 absent absent.dt0\n", Status::Refused),
+        (words(alloc, &[".", "cell", "long"])?, "refused F2 too long long limit 33554432\n", Status::Refused),
+        (words(alloc, &[])?, usage, Status::Usage),
+        (words(alloc, &["."])?, usage, Status::Usage),
+        (words(alloc, &[".", "cell"])?, usage, Status::Usage),
+        (words(alloc, &[".", "cell", ""])?, usage, Status::Usage),
+        (words(alloc, &[".", "Cell", "long"])?, usage, Status::Usage),
+        (words(alloc, &[".", "cell", "long", "long"])?, usage, Status::Usage),
+    ];
+    let mut store = SureStore::new(alloc);
+    let mut work = Work::new();
+    for (words, text, status) in &table {
+        let mut out = SureSink::new(alloc);
+        assert_eq!(rt; run(alloc, words, &mut store, &mut files, &mut out, &mut work), *status);
+        assert_eq!(rt; out.taken(), text.as_bytes());
+    }
+    assert_eq!(rt; work.tiles(), 0);
+    Ok(())
+}
+
+#[test]
+fn each_failing_call_is_a_fault(rt: HostRuntime) -> Result<(), Stopped> {
+    let alloc = rt.alloc();
+    let flat = FLAT.bytes(alloc)?;
+    let words = words(alloc, &[".", "cell", "cell.dt0"])?;
+    let line = b"n00e000 level 0 columns 121 rows 121 min 0 max 0 voids 0\n";
+    let fail = Fail { call: 0, applied: true };
+    let none = Fail { call: 0, applied: false };
+    let later = Fail { call: 1, applied: false };
+    let table = [
+        (fail, later, Status::InputFault, b"".as_slice()),
+        (later, fail, Status::OutputFault, line.as_slice()),
+        (later, none, Status::OutputFault, b"".as_slice()),
+        (later, later, Status::Done, line.as_slice()),
+    ];
+    for (of_files, of_out, status, taken) in table {
+        let mut files = MemLibrary::new(alloc, &[of_files])?;
+        files.hold("cell.dt0", &flat)?;
+        let mut out = MemSink::new(alloc, &[of_out])?;
+        let mut store = SureStore::new(alloc);
+        let mut work = Work::new();
+        assert_eq!(rt; run(alloc, &words, &mut store, &mut files, &mut out, &mut work), status);
+        assert_eq!(rt; out.taken(), taken);
+    }
+    Ok(())
+}

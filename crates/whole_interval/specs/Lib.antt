@@ -1,0 +1,4 @@
+pub mod Fraction
+pub mod HalfTurn
+pub mod Interval
+pub mod Sine
