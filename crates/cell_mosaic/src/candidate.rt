@@ -1,6 +1,8 @@
 // The squares that have a place.
-ghost use Rattle.std.specs.Prelude.{◌≡◌, ◌+◌, ◌<◌, ◌≤◌, [], ◌++◌, length, slice_get, Some, ◌&&◌, if◌then◌else◌};
-ghost use Rattle.tms_tree.specs.Place.{IsPlace};
+ghost use Rattle.std.specs.Prelude.{◌≡◌, ◌+◌, ◌<◌, ◌≤◌, [], ◌++◌, length, slice_index_or, ◌&&◌, if◌then◌else◌};
+ghost use Rattle.std.specs.List.{All};
+ghost use Rattle.tms_tree.specs.Place.{IsPlace, point_of};
+ghost use Rattle.tms_tree.specs.Degrees.{Holds, square_rectangle};
 ghost use Rattle.cell_mosaic.specs.Candidates.{squares_at, candidates_of};
 
 use std::marker::Model;
@@ -61,7 +63,7 @@ impl SquareList {
     /// The square of this number, from 0.
     pub fn at(&self, k: u8) -> Square
         requires { k < length self.now }
-        ensures { slice_get self.now k ≡ Some result }
+        ensures { result ≡ slice_index_or self.now k result }
     {
         self.squares[k as usize]
     }
@@ -78,7 +80,8 @@ fn both(a: bool, b: bool) -> bool
 /// where it lies on such a parallel the one south of it; where on both the one south-west of it.
 pub fn candidates(place: Place) -> SquareList
     requires { IsPlace place }
-    ensures { result ≡ candidates_of place }
+    ensures value { result ≡ candidates_of place }
+    ensures held { All (λ square. Holds (square_rectangle square) (point_of place)) result }
 {
     let (east, north) = (180 * place.p, 180 * place.q);
     let lon = (east / place.d % 360) as u16;

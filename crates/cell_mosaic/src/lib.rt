@@ -9,6 +9,7 @@ mod quad;
 mod source;
 mod spot;
 mod value;
+mod whole;
 
 pub use blending::blend;
 pub use candidate::{SquareList, candidates};
@@ -16,3 +17,4 @@ pub use fault::SourceFault;
 pub use quad::Quad;
 pub use source::PostSource;
 pub use value::cell_value;
+pub use whole::{NoRoom, WholeCells};
