@@ -107,6 +107,6 @@ candidates_hold place is_place =
     let west = λ (e : is_on_meridian place ≡ true). west_lon place pos (eqb-true _ _ e) in
     let P = HasPlace place in
     All-append P _ _ (All-append P _ _ (All-append P _ _ (holds_at lon lat place here (here_lat place pos))
-      (all_if (is_on_meridian place) P _ (λ e. holds_at (west_of lon) lat place (west e) (here_lat place pos))))
-      (all_if (is_on_parallel place) P _ (λ e. holds_at lon (lat - 1) place here (south_lat place e))))
-      (all_if (is_on_meridian place && is_on_parallel place) P _ (λ e. let both = and_parts (is_on_meridian place) (is_on_parallel place) e in holds_at (west_of lon) (lat - 1) place (west both.0) (south_lat place both.1)))
+    (all_if (is_on_meridian place) P _ (λ e. holds_at (west_of lon) lat place (west e) (here_lat place pos))))
+    (all_if (is_on_parallel place) P _ (λ e. holds_at lon (lat - 1) place here (south_lat place e))))
+    (all_if (is_on_meridian place && is_on_parallel place) P _ (λ e. let both = and_parts (is_on_meridian place) (is_on_parallel place) e in holds_at (west_of lon) (lat - 1) place (west both.0) (south_lat place both.1)))

@@ -52,7 +52,7 @@ counted_value post spot quad h =
     let last = kept_same quad.ne other.ne ne [] [] (λ w. h.ne (pos_left spot.east spot.north w) (pos_right spot.east spot.north w)) refl in
     let north = kept_same quad.nw other.nw nw (with_weight quad.ne ne ∷ []) (with_weight other.ne ne ∷ []) (λ w. h.nw (pos_right (spot.east_unit - spot.east) spot.north w)) last in
     let east = kept_same quad.se other.se se (with_weight quad.nw nw ∷ (with_weight quad.ne ne ∷ [])) (with_weight other.nw nw ∷ (with_weight other.ne ne ∷ []))
-      (λ w. h.se (pos_left spot.east (spot.north_unit - spot.north) w)) north in
+    (λ w. h.se (pos_left spot.east (spot.north_unit - spot.north) w)) north in
     value_of_same _ _ (spot.east_unit * spot.north_unit)
     (kept_same quad.sw other.sw sw (with_weight quad.se se ∷ (with_weight quad.nw nw ∷ (with_weight quad.ne ne ∷ []))) (with_weight other.se se ∷ (with_weight other.nw nw ∷ (with_weight other.ne ne ∷ []))) (λ _. h.sw) east)
 

@@ -37,7 +37,7 @@ at_cell true square key one rest bytes same here later e =
     rw (← turned, ← is) here
 at_cell false square key one rest bytes same here later e = later e
 
-held_cell : (es : List (Square × List ℕ)) → are_cells es ≡ true → (square : Square) (bytes : List ℕ) → get (cells_of es) square ≡ Some bytes → IsCellOf square bytes
+pub held_cell : (es : List (Square × List ℕ)) → are_cells es ≡ true → (square : Square) (bytes : List ℕ) → get (cells_of es) square ≡ Some bytes → IsCellOf square bytes
 held_cell [] good square bytes e = absurd (let none = get-empty {X = List ℕ} square_cmp square in cc)
 held_cell (e ∷ es) good square bytes is =
     let both = and_parts (is_cell_of e.0 e.1) (are_cells es) good in

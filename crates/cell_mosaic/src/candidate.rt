@@ -97,3 +97,28 @@ pub fn candidates(place: Place) -> SquareList
     squares.push_if(both(on_meridian, on_parallel), west, south);
     squares
 }
+
+#[cfg(test)]
+mod tests {
+    use super::*;
+    use std::test::Fail;
+
+    #[test]
+    fn poles_and_the_antimeridian_have_these_candidates(rt: HostRuntime) -> Result<(), Fail> {
+        let south = candidates(Place { p: 2, q: 0, d: 2 });
+        assert_eq!(rt; south.count(), 2);
+        assert_eq!(rt; south.at(0).text().as_slice(), b"s90e000".as_slice());
+        assert_eq!(rt; south.at(1).text().as_slice(), b"s90w001".as_slice());
+        let north = candidates(Place { p: 2, q: 2, d: 2 });
+        assert_eq!(rt; north.count(), 2);
+        assert_eq!(rt; north.at(0).text().as_slice(), b"n89e000".as_slice());
+        assert_eq!(rt; north.at(1).text().as_slice(), b"n89w001".as_slice());
+        let west = candidates(Place { p: 0, q: 1, d: 2 });
+        assert_eq!(rt; west.count(), 4);
+        assert_eq!(rt; west.at(0).text().as_slice(), b"n00w180".as_slice());
+        assert_eq!(rt; west.at(1).text().as_slice(), b"n00e179".as_slice());
+        assert_eq!(rt; west.at(2).text().as_slice(), b"s01w180".as_slice());
+        assert_eq!(rt; west.at(3).text().as_slice(), b"s01e179".as_slice());
+        Ok(())
+    }
+}

@@ -1,5 +1,5 @@
 // Cells held whole in memory.
-ghost use Rattle.std.specs.Prelude.{◌≡◌, ◌<◌, IsTrue, None};
+ghost use Rattle.std.specs.Prelude.{◌≡◌, ℕ, ◌<◌, ◌^◌, IsTrue, None, slice_index};
 ghost use Rattle.dted_cell.specs.Cell.{square_in, columns_in, rows_in, post_in};
 ghost use Rattle.dted_cell.specs.Refusal.{refusal_of};
 ghost use Rattle.cell_mosaic.specs.Cells.{IsPost};
@@ -34,6 +34,11 @@ fn square_of(cell: &CellBytes) -> Square
     cell.view().square()
 }
 
+// What a slice of bytes shows of its numbers.
+fn show_bytes(bytes: &[u8])
+    ensures { (k : ℕ) → slice_index bytes.now k < 2 ^ 8 }
+{}
+
 // A post of a cell.
 fn post_of(cell: &CellBytes, col: u16, row: u16) -> Post
     requires col { col < columns_in cell.now }
@@ -41,7 +46,7 @@ fn post_of(cell: &CellBytes, col: u16, row: u16) -> Post
     ensures value { result ≡ post_in cell.now col row }
     ensures height { IsPost result }
 {
-    let _ = cell.bytes();
+    show_bytes(cell.bytes());
     cell.view().post(col, row)
 }
 
