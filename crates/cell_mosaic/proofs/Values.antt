@@ -6,6 +6,7 @@ use Rattle.std.proofs.lemmas.Bool.{cases_lt, ltb-true}
 use Rattle.terrain_base.specs.declared.square.Square.{Square}
 use Rattle.terrain_base.specs.declared.level.CellLevel.{CellLevel}
 use Rattle.terrain_base.specs.declared.post.Post.{Post}
+use Rattle.terrain_base.specs.declared.post.Post.TheVariants.{Void}
 use Rattle.dted_cell.specs.Cell.{level_in, post_in}
 use Rattle.tms_tree.specs.declared.place.Place.{Place}
 use Rattle.cell_mosaic.specs.declared.corner.Corner.{Corner}
@@ -70,3 +71,12 @@ unfolding value_in_square
 value_is told shapes square level place spot quad r cells shape at h k =
     value_of_found (get told square) square level place quad r (cells.levels square ∙ sym shape) (rw (← at) h)
     (k ∙ counted_value (post_of told square) spot quad h ∙ ap (value_at_spot (post_of told square)) at)
+
+none_from : (found : Option (List ℕ)) (square : Square) (place : Place) → option_map level_in found ≡ None → value_from found square place ≡ Void
+none_from None square place e = refl
+none_from (Some bytes) square place e = absurd (cc)
+
+-- a square without a cell has no value
+pub no_value : (told : Cells) (shapes : Shapes) (square : Square) (place : Place) → AreCells told shapes → None ≡ get shapes square → Void ≡ value_in_square told square place
+unfolding value_in_square
+no_value told shapes square place cells shape = sym (none_from (get told square) square place (cells.levels square ∙ sym shape))

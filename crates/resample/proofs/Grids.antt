@@ -28,3 +28,9 @@ grid_is cells fill tile grid full all =
     let at : k ≡ spot (k % 67) (k / 67) = omega arith in
     ap (λ n. get_or grid n (pos 0)) at ∙ all (k % 67) (k / 67) (omega arith) (omega arith)
     ∙ sym (get_or-map-range_with_len (grid_height cells fill tile) 0 4489 k k (pos 0) below (omega arith)))
+
+pub apart_columns : (i j k : ℕ) → k < i → spot k j ≢ spot i j
+apart_columns i j k h = λ e. omega (arith, e)
+
+pub apart_rows : (i j k row : ℕ) → k ≤ 66 → row < j → spot k row ≢ spot i j
+apart_rows i j k row h r = λ e. omega (arith, e)

@@ -1,25 +1,13 @@
 -- The height among the squares that are left.
-use Rattle.std.specs.Prelude.{◌≡◌, ℕ, ◌+◌, ◌<◌, ◌≤◌, ℤ, pos, List, [], ◌∷◌, length, Option, Some, None, option_map}
-use Rattle.std.specs.FinMap.{get}
+use Rattle.std.specs.Prelude.{◌≡◌, ℕ, ◌+◌, ◌<◌, ◌≤◌, ℤ, pos, List, [], ◌∷◌, length}
 use Rattle.std.proofs.Common.{arith, refl, sym, ap, ◌∙◌, drop, get_or}
 use Rattle.std.proofs.lemmas.List.{at_drop_more, at_drop_all}
 use Rattle.terrain_base.specs.declared.square.Square.{Square}
 use Rattle.terrain_base.specs.declared.post.Post.{Post}
-use Rattle.terrain_base.specs.declared.post.Post.TheVariants.{Void, Metres}
-use Rattle.dted_cell.specs.Cell.{level_in}
 use Rattle.tms_tree.specs.declared.place.Place.{Place}
-use Rattle.cell_mosaic.specs.Cells.{Cells, Shapes, AreCells}
-use Rattle.cell_mosaic.specs.Value.{value_from, value_in_square}
+use Rattle.cell_mosaic.specs.Cells.{Cells}
+use Rattle.cell_mosaic.specs.Value.{value_in_square}
 use Rattle.resample.specs.Height.{metres_or, first_height, values_at, height_at}
-
-none_from : (found : Option (List ℕ)) (square : Square) (place : Place) → option_map level_in found ≡ None → value_from found square place ≡ Void
-none_from None square place e = refl
-none_from (Some bytes) square place e = absurd (cc)
-
--- a square without a cell has no value
-pub no_value : (told : Cells) (shapes : Shapes) (square : Square) (place : Place) → AreCells told shapes → None ≡ get shapes square → Void ≡ value_in_square told square place
-unfolding value_in_square
-no_value told shapes square place cells shape = sym (none_from (get told square) square place (cells.levels square ∙ sym shape))
 
 -- one square less
 pub next_is : (told : Cells) (fill : ℤ) (place : Place) (squares : List Square) (k : ℕ) (square : Square) (value : Post) → k < length squares → square ≡ get_or squares k square

@@ -1,4 +1,4 @@
-use Rattle.resample.proofs.Heights.{no_value}
+use Rattle.cell_mosaic.proofs.Values.{no_value}
 use Rattle.resample.proofs.place_height.value_at.Goals as goal
 
 pub returns-in-None-clause-value : goal.returns-in-None-clause-value
