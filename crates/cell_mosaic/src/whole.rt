@@ -53,7 +53,7 @@ fn post_of(cell: &CellBytes, col: u16, row: u16) -> Post
 impl WholeCells {
     ghost use Rattle.std.specs.Prelude.{IsNone, IfErr, OnOk, OnErr};
     ghost use Rattle.std.specs.FinMap as map;
-    ghost use Rattle.cell_mosaic.specs.WholeCells.{cells_in};
+    ghost use Rattle.cell_mosaic.specs.WholeCells.{cells_in, levels_in};
 
     /// No cells.
     pub fn new(alloc: Global) -> WholeCells
@@ -64,9 +64,9 @@ impl WholeCells {
         }
     }
 
-    /// Holds one more cell. For want of memory alone it hands the cell back and changes nothing.
+    /// Holds one more cell, of a square that has none yet. For want of memory alone it hands the cell back and changes nothing.
     pub fn put(&mut self, cell: CellBytes) -> Result<(), NoRoom>
-        requires { IsNone (map.get (cells_in self.old) (square_in cell)) }
+        requires { IsNone (map.get (levels_in self.old) (square_in cell)) }
         ensures ok { OnOk result (cells_in self.new ≡ map.insert (cells_in self.old) (square_in cell) cell) }
         ensures err { OnErr result (cells_in self.new ≡ cells_in self.old) }
         ensures returned { IfErr result (λ room. room.cell ≡ cell) }

@@ -6,3 +6,6 @@ mod place_height;
 
 pub use grid::tile_grid;
 pub use place_height::height;
+
+#[cfg(test)]
+mod tests;

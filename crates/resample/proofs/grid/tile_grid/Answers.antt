@@ -13,8 +13,7 @@ pub loop-j-preserved : goal.loop-j-preserved
 loop-j-preserved g c =
     let invariant = c.loop-j.invariant in
     let j = c.loop-j.j in
-    let row_done = c.in_ok-fill_row.ensures in
-    (
+    let row_done = c.in_ok-fill_row.ensures in (
       keeps_on invariant.0 c.fill_row.ensures.keeps,
       omega (arith, invariant.1, c.fill_row.ensures.cause.later),
       λ told is k row h r. elim (cases_lt row j) [

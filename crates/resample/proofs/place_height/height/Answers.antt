@@ -22,5 +22,5 @@ returns-in-Metres-clause-value g c = λ told is.
     let value = c.in_ok-metres.ensures.value told (told_on invariant.0 told is) in
     let height : IsHeight c.in-Metres.metres = rw c.in-Metres.is at c.in_ok-metres.ensures.height in
     let next = next_is told (to_z w16 (of_z w16 c.args.fill)) c.args.place c.candidates-squares.result c.loop-k.k c.at-square.result (Metres c.in-Metres.metres) (omega (arith, c.loop-k-test.true, c.count-k-end.ensures.count)) c.at-square.ensures
-      (sym c.in-Metres.is ∙ value) in
+    (sym c.in-Metres.is ∙ value) in
     passed_height c.in-Metres.metres height ∙ sym next ∙ invariant.2 told is ∙ ap (λ f. height_at told f c.args.place) (passed_height c.args.fill c.requires.fill)
