@@ -1,5 +1,5 @@
 -- The cells that are held, by the entries of their map.
-use Rattle.std.specs.Prelude.{◌≡◌, ℕ, ◌==◌, Bool, true, false, ◌&&◌, List, [], ◌∷◌, cond, is_none, Option, Some, None, option_map, ◌<◌, Result, Ok, Err, OnOk, OnErr, IsSome, IfSome}
+use Rattle.std.specs.Prelude.{◌≡◌, ℕ, true, List, [], ◌∷◌, cond, is_none, Some, None, option_map, ◌<◌, Result, Ok, Err, OnOk, OnErr, IsSome, IfSome}
 use Rattle.std.specs.declared.cmp.Ordering.{Ordering}
 use Rattle.std.specs.declared.cmp.Ordering.TheVariants.{Less, Equal, Greater}
 use Rattle.std.specs.Ordering.{eq_by_cmp, match_ordering}

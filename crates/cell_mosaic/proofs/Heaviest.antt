@@ -1,10 +1,10 @@
 -- The heaviest of some corners, found in one pass.
-use Rattle.std.specs.Prelude.{◌≡◌, ℕ, ◌+◌, ◌<◌, ◌≤◌, ◌==◌, max, nat_lt, nat_le, Bool, true, false, not, ◌&&◌, List, [], ◌∷◌, Option, Some, None, cond, if◌then◌else◌}
-use Rattle.std.specs.List.{filter, find}
-use Rattle.std.proofs.Common.{arith, refl, sym, ap, ◌∙◌, drop, get_or, length, inl, inr}
-use Rattle.std.proofs.lemmas.Bool.{cases_lt, lt-leb, le-leb, lt-ltb, ltb-true, ltb-false, eq-eqb, ne_eqb}
+use Rattle.std.specs.Prelude.{◌≡◌, ℕ, ◌<◌, ◌≤◌, ◌==◌, max, nat_lt, nat_le, Bool, true, false, not, ◌&&◌, List, [], ◌∷◌, cond, if◌then◌else◌}
+use Rattle.std.specs.List.{find}
+use Rattle.std.proofs.Common.{arith, refl, sym, ap, ◌∙◌, inl, inr}
+use Rattle.std.proofs.lemmas.Bool.{cases_lt, lt-leb, le-leb, ltb-true, ltb-false, eq-eqb, ne_eqb}
 use Rattle.terrain_base.specs.declared.post.Post.{Post}
-use Rattle.terrain_base.specs.declared.post.Post.TheVariants.{Void, Metres}
+use Rattle.terrain_base.specs.declared.post.Post.TheVariants.{Void}
 use Rattle.cell_mosaic.specs.declared.corner.Corner.{Corner}
 use Rattle.cell_mosaic.specs.Cells.{IsPost}
 use Rattle.cell_mosaic.specs.Blend.{is_void, counted, known, greatest_weight, post_of_corner, heaviest}

@@ -1,12 +1,12 @@
 -- The posts of a cell are voids and heights.
-use Rattle.std.specs.Prelude.{◌≡◌, ℕ, ◌+◌, ◌-◌, ◌*◌, ◌%◌, ◌^◌, ◌<◌, ◌≤◌, ◌==◌, nat_lt, ℤ, pos, neg_ℤ, Bool, true, false, List, None, slice_index, if◌then◌else◌}
-use Rattle.std.proofs.Common.{arith, refl, sym, ap, ◌∙◌, get_or, inl, inr}
+use Rattle.std.specs.Prelude.{◌≡◌, ℕ, ◌+◌, ◌-◌, ◌^◌, ◌<◌, ◌≤◌, ◌==◌, nat_lt, pos, neg_ℤ, Bool, true, false, List, None, if◌then◌else◌}
+use Rattle.std.proofs.Common.{arith, refl, get_or, inl, inr}
 use Rattle.std.proofs.lemmas.Bool.{eqb-false, ltb-true, ltb-false}
 use Rattle.std.proofs.lemmas.Int.{ints}
 use Rattle.std.proofs.lemmas.List.{get_or-drop}
 use Rattle.std.proofs.lemmas.Nat.{div-add-mod'}
 use Rattle.terrain_base.specs.declared.post.Post.TheVariants.{Void, Metres}
-use Rattle.dted_cell.specs.Cell.{square_in, level_in, columns_in, rows_in, post_in}
+use Rattle.dted_cell.specs.Cell.{columns_in, rows_in, post_in}
 use Rattle.dted_cell.specs.Elevation.{IsElevation, post_of}
 use Rattle.dted_cell.specs.Field.{word_at}
 use Rattle.dted_cell.specs.Lead.{lead_of, text_of}

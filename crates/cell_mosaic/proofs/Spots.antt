@@ -1,6 +1,6 @@
 -- A place that a square holds lies in the lattice of the square's cell.
 use Rattle.std.specs.Prelude.{◌≡◌, ℕ, ◌+◌, ◌-◌, ◌*◌, ◌/◌, ◌%◌, ◌^◌, ◌<◌, ◌≤◌, nat_lt}
-use Rattle.std.proofs.Common.{arith, refl, sym, ap, ◌∙◌, lit<, lit≤, rules}
+use Rattle.std.proofs.Common.{arith, refl, ap, lit<, lit≤, rules}
 use Rattle.std.proofs.lemmas.Bool.{cond_both}
 use Rattle.std.proofs.lemmas.Nat.{div-add-mod', mod_below, same_from_place}
 use Rattle.std.proofs.Math.Nat.{mul-le-mul_right, mul-lt-mul_of_pos_right, le_of_mul-le-mul_right, le-mul_of_pos_right, lt_of_mul-lt-mul_right}

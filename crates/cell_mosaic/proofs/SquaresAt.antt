@@ -1,11 +1,11 @@
 -- Squares by their degrees.
-use Rattle.std.specs.Prelude.{◌≡◌, ℕ, ◌+◌, ◌-◌, ◌*◌, ◌/◌, ◌%◌, ◌<◌, ◌==◌, nat_lt, Bool, true, false, ◌&&◌, List, [], ◌∷◌, ◌++◌, cond, if◌then◌else◌, Option, Some, None, IsSome, refl}
+use Rattle.std.specs.Prelude.{◌≡◌, ℕ, ◌-◌, ◌*◌, ◌%◌, ◌<◌, ◌==◌, nat_lt, Bool, true, false, ◌&&◌, List, [], ◌∷◌, ◌++◌, if◌then◌else◌, refl}
 use Rattle.std.proofs.Common.{arith, sym, ap, ◌∙◌, append-nil}
 use Rattle.std.proofs.lemmas.Bool.{ltb-true, ltb-false}
 use Rattle.terrain_base.specs.declared.square.Square.{Square}
 use Rattle.terrain_base.proofs.SquareTexts.{same_square}
 use Rattle.tms_tree.specs.declared.place.Place.{Place}
-use Rattle.cell_mosaic.specs.Candidates.{square_if, squares_at, lon_at, lat_at, is_on_meridian, is_on_parallel, west_of, candidates_of}
+use Rattle.cell_mosaic.specs.Candidates.{square_if, squares_at, lon_at, lat_at, is_on_meridian, west_of, candidates_of}
 
 square_of_tests : (lon lat : ℕ) (a b : Bool) (p : nat_lt lon 360 ≡ a) (q : nat_lt lat 180 ≡ b) (square : Square) → square.lon ≡ lon → square.lat ≡ lat → square_if lon lat a b p q ≡ square ∷ []
 square_of_tests lon lat true true p q square e f = ap (λ s. s ∷ []) (same_square _ square (sym f) (sym e))

@@ -1,5 +1,5 @@
 -- The value of a cell is that of the posts that count.
-use Rattle.std.specs.Prelude.{◌≡◌, ℕ, ◌+◌, ◌-◌, ◌*◌, ◌<◌, nat_lt, Bool, true, false, List, [], ◌∷◌, cond, Option, Some, None, option_map}
+use Rattle.std.specs.Prelude.{◌≡◌, ℕ, ◌-◌, ◌*◌, ◌<◌, nat_lt, Bool, true, false, List, [], ◌∷◌, cond, Option, Some, None, option_map}
 use Rattle.std.specs.FinMap.{get}
 use Rattle.std.proofs.Common.{arith, refl, sym, ap, inl, inr, ◌∙◌}
 use Rattle.std.proofs.lemmas.Bool.{cases_lt, ltb-true}
@@ -13,7 +13,7 @@ use Rattle.cell_mosaic.specs.declared.corner.Corner.{Corner}
 use Rattle.cell_mosaic.specs.declared.quad.Quad.{Quad}
 use Rattle.cell_mosaic.specs.declared.spot.Spot.{Spot}
 use Rattle.cell_mosaic.specs.Cells.{Cells, Shapes, AreCells, post_from, post_of}
-use Rattle.cell_mosaic.specs.Blend.{counted, known, is_void, heaviest, weighted_sum, rounded, value_of, blend_of}
+use Rattle.cell_mosaic.specs.Blend.{counted, value_of, blend_of}
 use Rattle.cell_mosaic.specs.Spot.{spot_in}
 use Rattle.cell_mosaic.specs.Value.{AreCounted, quad_at, value_at_spot, value_from, value_in_square}
 

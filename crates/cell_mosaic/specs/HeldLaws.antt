@@ -2,7 +2,6 @@
 use Rattle.std.specs.Prelude.{◌≡◌, ℕ, ◌==◌, Bool, true, false, ◌&&◌, List, [], ◌∷◌, cond, is_none, Option, Some, None, option_map, refl}
 use Rattle.std.proofs.Common.{sym, ap, ◌∙◌}
 use Rattle.std.proofs.lemmas.Bool.{and_parts, eqb-true}
-use Rattle.std.specs.List.{list_all}
 use Rattle.std.specs.Ordering.{eq_by_cmp}
 use Rattle.std.specs.FinMap.{get, get-empty, get-insert}
 use Rattle.std.proofs.lemmas.Map.Views.{tells_apart}
@@ -15,7 +14,7 @@ use Rattle.dted_cell.specs.Cell.{square_in, level_in}
 use Rattle.dted_cell.specs.Refusal.{refusal_of}
 use Rattle.dted_cell.specs.Trouble.{IsCellOf}
 use Rattle.dted_cell.specs.declared.refusal.CellRefusal.{CellRefusal}
-use Rattle.cell_mosaic.specs.Cells.{Cells, Shapes, AreCells}
+use Rattle.cell_mosaic.specs.Cells.{Cells, AreCells}
 use Rattle.cell_mosaic.specs.Held.{cells_of, levels_of, is_cell_of, are_cells}
 
 none_is : (o : Option CellRefusal) → is_none o ≡ true → o ≡ None

@@ -2,13 +2,12 @@
 use Rattle.std.specs.Prelude.{◌≡◌, ◌≢◌, ℕ, ◌≤◌, Bool, List, Option, Some, None, Result, IsErrOf, IfErr, IfSome, IsSome}
 use Rattle.std.specs.FinMap.{get}
 use Rattle.terrain_base.specs.declared.square.Square.{Square}
-use Rattle.terrain_base.specs.declared.name.Key.{Key}
 use Rattle.terrain_base.specs.declared.name.Key.TheVariants.{Cell}
 use Rattle.terrain_base.specs.declared.store.Change.{Change}
 use Rattle.terrain_base.specs.Step.{Files}
 use Rattle.terrain_base.specs.Cause.{Rose}
 use Rattle.dted_cell.specs.declared.trouble.CellTrouble.{CellTrouble}
-use Rattle.dted_cell.specs.declared.trouble.CellTrouble.TheVariants.{Lost, Bad, Elsewhere, Changed}
+use Rattle.dted_cell.specs.declared.trouble.CellTrouble.TheVariants.{Changed}
 use Rattle.dted_cell.specs.Trouble.{name_of, Shows}
 use Rattle.cell_mosaic.specs.declared.fault.SourceFault.{SourceFault}
 use Rattle.cell_mosaic.specs.declared.fault.SourceFault.TheVariants as fault

@@ -2,7 +2,6 @@
 use Rattle.std.specs.Prelude.{◌≡◌, ℕ, ◌+◌, ◌<◌, List, Option, Some, None}
 use Rattle.std.specs.FinMap.{get}
 use Rattle.terrain_base.specs.declared.square.Square.{Square}
-use Rattle.terrain_base.specs.declared.level.CellLevel.{CellLevel}
 use Rattle.terrain_base.specs.declared.post.Post.{Post}
 use Rattle.terrain_base.specs.declared.post.Post.TheVariants.{Void}
 use Rattle.dted_cell.specs.Cell.{level_in, post_in}

@@ -1,13 +1,13 @@
 -- The height among the squares that are left.
-use Rattle.std.specs.Prelude.{◌≡◌, ℕ, ◌+◌, ◌<◌, ◌≤◌, ℤ, pos, List, [], ◌∷◌, length}
-use Rattle.std.proofs.Common.{arith, refl, sym, ap, ◌∙◌, drop, get_or}
+use Rattle.std.specs.Prelude.{◌≡◌, ℕ, ◌+◌, ◌<◌, ◌≤◌, ℤ, List, length}
+use Rattle.std.proofs.Common.{sym, ap, ◌∙◌, drop, get_or}
 use Rattle.std.proofs.lemmas.List.{at_drop_more, at_drop_all}
 use Rattle.terrain_base.specs.declared.square.Square.{Square}
 use Rattle.terrain_base.specs.declared.post.Post.{Post}
 use Rattle.tms_tree.specs.declared.place.Place.{Place}
 use Rattle.cell_mosaic.specs.Cells.{Cells}
 use Rattle.cell_mosaic.specs.Value.{value_in_square}
-use Rattle.resample.specs.Height.{metres_or, first_height, values_at, height_at}
+use Rattle.resample.specs.Height.{metres_or, first_height, values_at}
 
 -- one square less
 pub next_is : (told : Cells) (fill : ℤ) (place : Place) (squares : List Square) (k : ℕ) (square : Square) (value : Post) → k < length squares → square ≡ get_or squares k square

@@ -1,4 +1,3 @@
-use Rattle.std.proofs.Common.{sym, ◌∙◌}
 use Rattle.cell_mosaic.proofs.Values.{value_is}
 use Rattle.cell_mosaic.proofs.value.cell_value.Goals as goal
 

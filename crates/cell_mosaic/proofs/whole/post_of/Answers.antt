@@ -1,4 +1,4 @@
-use Rattle.std.proofs.Common.{◌≡◌, ◌<◌, ◌^◌, ℕ, get_or, arith, ap}
+use Rattle.std.proofs.Common.{◌<◌, ◌^◌, ℕ, get_or, arith, ap}
 use Rattle.cell_mosaic.proofs.Posts.{cell_post}
 use Rattle.cell_mosaic.proofs.whole.post_of.Goals as goal
 

@@ -1,4 +1,4 @@
-use Rattle.std.proofs.Common.{◌≡◌, ◌<◌, ◌≤◌, ℕ, arith, sym, ap, ◌∙◌, length, below_more, to_z, of_z}
+use Rattle.std.proofs.Common.{◌≡◌, ◌≤◌, arith, sym, ap, ◌∙◌, length, below_more, to_z, of_z}
 use Rattle.std.proofs.Math.ListN.{length-set}
 use mir.Syntax.{w16}
 use Rattle.terrain_base.specs.Grid.{spot, height_in}

@@ -1,4 +1,4 @@
-use Rattle.std.proofs.Common.{◌≡◌, ◌<◌, ◌≤◌, ℕ, arith, sym, ap, ◌∙◌, inl, inr, to_z, of_z}
+use Rattle.std.proofs.Common.{◌≡◌, arith, sym, ap, ◌∙◌, inl, inr, to_z, of_z}
 use Rattle.std.proofs.lemmas.Bool.{cases_lt}
 use mir.Syntax.{w16}
 use Rattle.terrain_base.specs.Grid.{height_in}

@@ -1,4 +1,4 @@
-use Rattle.std.proofs.Common.{◌≡◌, refl, arith, sym, ap, ◌∙◌, to_z, of_z}
+use Rattle.std.proofs.Common.{refl, arith, sym, ap, ◌∙◌, to_z, of_z}
 use mir.Syntax.{w16}
 use Rattle.terrain_base.specs.declared.post.Post.TheVariants.{Metres}
 use Rattle.terrain_base.specs.Height.{IsHeight}
