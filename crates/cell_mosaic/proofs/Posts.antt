@@ -15,13 +15,15 @@ use Rattle.dted_cell.specs.Refusal.{refusal_of}
 use Rattle.dted_cell.proofs.WholeCells.{cell_by}
 use Rattle.cell_mosaic.specs.Cells.{IsPost}
 
-by_tests : (void low : Bool) (word : ℕ) → (word == 65535) ≡ void → nat_lt word 32768 ≡ low → word < 65536 → IsElevation word
+by_tests : (void low : Bool) (word : ℕ) → (word == 65535) ≡ void → nat_lt word 32768 ≡ low → word < 65536
+    → IsElevation word
     → IsPost (if void then Void else Metres (if low then pos word else neg_ℤ (pos (word - 32768))))
 by_tests true low word e f small h = tt
 by_tests false true word e f small h =
     elim h [
       | inl is ↦ absurd (eqb-false _ _ e is)
-      | inr few ↦ let whole = div-add-mod' word 32768 in let below = ltb-true _ _ f in record { above = omega (arith, ints, few, whole, below); below = omega (arith, ints, few, whole, below) }
+      | inr few ↦ let whole = div-add-mod' word 32768 in let below = ltb-true _ _ f in record
+          { above = omega (arith, ints, few, whole, below); below = omega (arith, ints, few, whole, below) }
     ]
 by_tests false false word e f small h =
     elim h [
@@ -36,15 +38,19 @@ by_tests false false word e f small h =
 post_is : (word : ℕ) → word < 65536 → IsElevation word → IsPost (post_of word)
 post_is word small h = by_tests (word == 65535) (nat_lt word 32768) word refl refl small h
 
-small_word : (bytes : List ℕ) (at : ℕ) → ((k : ℕ) → get_or bytes k 0 < 2 ^ 8) → word_at (text_of bytes) at < 65536
+small_word : (bytes : List ℕ) (at : ℕ) → ((k : ℕ) → get_or bytes k 0 < 2 ^ 8)
+    → word_at (text_of bytes) at < 65536
 unfolding text_of
 small_word bytes at small =
     let first = get_or-drop (lead_of bytes) bytes at 0 in
     let second = get_or-drop (lead_of bytes) bytes (at + 1) 0 in
     omega (arith, first, second, small (lead_of bytes + at), small (lead_of bytes + (at + 1)))
 
-pub cell_post : (bytes : List ℕ) (col row : ℕ) → refusal_of bytes ≡ None → ((k : ℕ) → get_or bytes k 0 < 2 ^ 8) → col < columns_in bytes → row < rows_in bytes → IsPost (post_in bytes col row)
+pub cell_post : (bytes : List ℕ) (col row : ℕ) → refusal_of bytes ≡ None
+    → ((k : ℕ) → get_or bytes k 0 < 2 ^ 8) → col < columns_in bytes → row < rows_in bytes
+    → IsPost (post_in bytes col row)
 unfolding post_in columns_in rows_in
 cell_post bytes col row accepted small h k =
-    post_is (word_at (text_of bytes) (elevation_at (rows_in bytes) col row)) (small_word bytes (elevation_at (rows_in bytes) col row) small)
+    post_is (word_at (text_of bytes) (elevation_at (rows_in bytes) col row))
+    (small_word bytes (elevation_at (rows_in bytes) col row) small)
     (((cell_by bytes accepted).records col h).heights row k)

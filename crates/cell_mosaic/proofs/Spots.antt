@@ -32,18 +32,24 @@ by_factor P one two three four six degrees =
 lon_step_from : (level : CellLevel) (degrees : ℕ) → IsStep (lat_step_of level * factor_at degrees)
 lon_step_from Zero degrees =
     by_factor (λ f. IsStep (30 * f))
-    (record { positive = lit< tt; small = lit≤ tt; whole = refl }) (record { positive = lit< tt; small = lit≤ tt; whole = refl })
-    (record { positive = lit< tt; small = lit≤ tt; whole = refl }) (record { positive = lit< tt; small = lit≤ tt; whole = refl })
+    (record { positive = lit< tt; small = lit≤ tt; whole = refl })
+    (record { positive = lit< tt; small = lit≤ tt; whole = refl })
+    (record { positive = lit< tt; small = lit≤ tt; whole = refl })
+    (record { positive = lit< tt; small = lit≤ tt; whole = refl })
     (record { positive = lit< tt; small = lit≤ tt; whole = refl }) degrees
 lon_step_from One degrees =
     by_factor (λ f. IsStep (3 * f))
-    (record { positive = lit< tt; small = lit≤ tt; whole = refl }) (record { positive = lit< tt; small = lit≤ tt; whole = refl })
-    (record { positive = lit< tt; small = lit≤ tt; whole = refl }) (record { positive = lit< tt; small = lit≤ tt; whole = refl })
+    (record { positive = lit< tt; small = lit≤ tt; whole = refl })
+    (record { positive = lit< tt; small = lit≤ tt; whole = refl })
+    (record { positive = lit< tt; small = lit≤ tt; whole = refl })
+    (record { positive = lit< tt; small = lit≤ tt; whole = refl })
     (record { positive = lit< tt; small = lit≤ tt; whole = refl }) degrees
 lon_step_from Two degrees =
     by_factor (λ f. IsStep (1 * f))
-    (record { positive = lit< tt; small = lit≤ tt; whole = refl }) (record { positive = lit< tt; small = lit≤ tt; whole = refl })
-    (record { positive = lit< tt; small = lit≤ tt; whole = refl }) (record { positive = lit< tt; small = lit≤ tt; whole = refl })
+    (record { positive = lit< tt; small = lit≤ tt; whole = refl })
+    (record { positive = lit< tt; small = lit≤ tt; whole = refl })
+    (record { positive = lit< tt; small = lit≤ tt; whole = refl })
+    (record { positive = lit< tt; small = lit≤ tt; whole = refl })
     (record { positive = lit< tt; small = lit≤ tt; whole = refl }) degrees
 
 pub lon_step_is : (square : Square) (level : CellLevel) → IsStep (lon_step_of square level)
@@ -68,8 +74,10 @@ pub record IsIn (offset d : ℕ) : Type 0 where
   pub within : part ≤ d
   pub is : offset ≡ 3600 * part
 
-east_from : (lon p d turns point_turns : ℕ) → 0 < d → lon < 360 → (lon + 360 * turns) * d ≤ 180 * p + 360 * point_turns * d
-    → 180 * p + 360 * point_turns * d ≤ (lon + 1 + 360 * turns) * d → IsIn ((648000 * p + 3600 * d * (360 - lon)) % (1296000 * d)) d
+east_from : (lon p d turns point_turns : ℕ) → 0 < d → lon < 360
+    → (lon + 360 * turns) * d ≤ 180 * p + 360 * point_turns * d
+    → 180 * p + 360 * point_turns * d ≤ (lon + 1 + 360 * turns) * d
+    → IsIn ((648000 * p + 3600 * d * (360 - lon)) % (1296000 * d)) d
 east_from lon p d turns point_turns pos small low high =
     let part = 180 * p + 360 * point_turns * d - (lon + 360 * turns) * d in
     let rest = 360 - lon in
@@ -79,19 +87,28 @@ east_from lon p d turns point_turns pos small low high =
     record {
       part = part;
       within = few;
-      is = mod_is (648000 * p + 3600 * d * rest) (1296000 * d) point_turns (turns + 1) (3600 * part) (omega arith) (omega (arith, few)) (omega (arith, low, across));
+      is = mod_is (648000 * p + 3600 * d * rest) (1296000 * d) point_turns (turns + 1) (3600 * part)
+          (omega arith) (omega (arith, few)) (omega (arith, low, across));
     }
 
-pub east_in : (square : Square) (place : Place) → IsPlace place → Holds (square_rectangle square) (point_of place) → IsIn (east_of square place) place.d
+pub east_in : (square : Square) (place : Place) → IsPlace place
+    → Holds (square_rectangle square) (point_of place) → IsIn (east_of square place) place.d
 east_in square place is_place held =
     east_from square.lon place.p place.d held.turns held.point_turns is_place.positive square.lon_in_range
     (omega (arith, held.longitude.above)) (omega (arith, held.longitude.below))
 
-north_from : (lat q d : ℕ) → lat * d ≤ 180 * q → 180 * q ≤ (lat + 1) * d → IsIn (648000 * q - 3600 * d * lat) d
-north_from lat q d low high = record { part = 180 * q - lat * d; within = omega (arith, low, high); is = omega (arith, low) }
+north_from : (lat q d : ℕ) → lat * d ≤ 180 * q → 180 * q ≤ (lat + 1) * d
+    → IsIn (648000 * q - 3600 * d * lat) d
+north_from lat q d low high = record {
+  part = 180 * q - lat * d;
+  within = omega (arith, low, high);
+  is = omega (arith, low);
+}
 
-pub north_in : (square : Square) (place : Place) → Holds (square_rectangle square) (point_of place) → IsIn (north_of square place) place.d
-north_in square place held = north_from square.lat place.q place.d (omega (arith, held.latitude.above)) (omega (arith, held.latitude.below))
+pub north_in : (square : Square) (place : Place) → Holds (square_rectangle square) (point_of place)
+    → IsIn (north_of square place) place.d
+north_in square place held = north_from square.lat place.q place.d (omega (arith, held.latitude.above))
+    (omega (arith, held.latitude.below))
 
 -- ---- by columns, and by rows
 
@@ -102,7 +119,8 @@ pub record IsAt (offset unit count : ℕ) : Type 0 where
   pub small : unit ≤ 2 ^ 37
   pub few : count ≤ 3601
 
-at_index : (offset d step : ℕ) → 0 < d → d ≤ 2 ^ 29 → IsStep step → IsIn offset d → IsAt offset (step * d) (3600 / step + 1)
+at_index : (offset d step : ℕ) → 0 < d → d ≤ 2 ^ 29 → IsStep step → IsIn offset d
+    → IsAt offset (step * d) (3600 / step + 1)
 at_index offset d step pos fine s h =
     let unit = step * d in
     let some : 0 * d < step * d = mul-lt-mul_of_pos_right s.positive pos in
@@ -114,19 +132,28 @@ at_index offset d step pos fine s h =
     let index : offset / unit ≤ 3600 / step = le_of_mul-le-mul_right {k = unit} most positive in
     record {
       index = omega arith;
-      next = λ more. let less : offset / unit < 3600 / step = lt_of_mul-lt-mul_right unit (omega (arith, whole, full, h.within, h.is)) in omega arith;
+      next = λ more. let less : offset / unit < 3600 / step = lt_of_mul-lt-mul_right unit
+          (omega (arith, whole, full, h.within, h.is)) in omega arith;
       rest = mod_below offset unit positive;
       small = omega arith;
       few = omega (arith, le-mul_of_pos_right (3600 / step) s.positive, s.whole);
     }
 
-pub columns_at : (square : Square) (level : CellLevel) (place : Place) → IsPlace place → Holds (square_rectangle square) (point_of place) → IsAt (east_of square place) (column_unit square level place) (columns_of square level)
-columns_at square level place is_place held = at_index (east_of square place) place.d (lon_step_of square level) is_place.positive is_place.fine (lon_step_is square level) (east_in square place is_place held)
+pub columns_at : (square : Square) (level : CellLevel) (place : Place) → IsPlace place
+    → Holds (square_rectangle square) (point_of place)
+    → IsAt (east_of square place) (column_unit square level place) (columns_of square level)
+columns_at square level place is_place held = at_index (east_of square place) place.d
+    (lon_step_of square level) is_place.positive is_place.fine (lon_step_is square level)
+    (east_in square place is_place held)
 
-pub rows_at : (square : Square) (level : CellLevel) (place : Place) → IsPlace place → Holds (square_rectangle square) (point_of place) → IsAt (north_of square place) (row_unit level place) (rows_of level)
-rows_at square level place is_place held = at_index (north_of square place) place.d (lat_step_of level) is_place.positive is_place.fine (lat_step_is level) (north_in square place held)
+pub rows_at : (square : Square) (level : CellLevel) (place : Place) → IsPlace place
+    → Holds (square_rectangle square) (point_of place)
+    → IsAt (north_of square place) (row_unit level place) (rows_of level)
+rows_at square level place is_place held = at_index (north_of square place) place.d (lat_step_of level)
+    is_place.positive is_place.fine (lat_step_is level) (north_in square place held)
 
-pub spot_fits : (square : Square) (level : CellLevel) (place : Place) → IsPlace place → Holds (square_rectangle square) (point_of place) → Fits square level (spot_in square level place)
+pub spot_fits : (square : Square) (level : CellLevel) (place : Place) → IsPlace place
+    → Holds (square_rectangle square) (point_of place) → Fits square level (spot_in square level place)
 spot_fits square level place is_place held =
     let columns = columns_at square level place is_place held in
     let rows = rows_at square level place is_place held in
@@ -142,4 +169,5 @@ spot_fits square level place is_place held =
     }
 
 pub index_fits : (offset unit count : ℕ) → IsAt offset unit count → Fits16 w16 (offset / unit)
-index_fits offset unit count h = let small : offset / unit < 2 ^ 16 = omega (arith, h.index, h.few) in search rules
+index_fits offset unit count h = let small : offset / unit < 2 ^ 16 = omega (arith, h.index, h.few) in search
+    rules

@@ -17,7 +17,8 @@ levels_of (e ∷ es) = insert (levels_of es) e.0 (level_in e.1)
 
 -- the bytes are a cell of this square
 abbrev pub is_cell_of : Square → List ℕ → Bool
-is_cell_of square bytes = is_none (refusal_of bytes) && ((square_in bytes).lat == square.lat && (square_in bytes).lon == square.lon)
+is_cell_of square bytes = is_none (refusal_of bytes) &&
+    ((square_in bytes).lat == square.lat && (square_in bytes).lon == square.lon)
 
 -- each is a cell of its square
 abbrev pub are_cells : List (Square × List ℕ) → Bool

@@ -6,8 +6,8 @@ use Rattle.terrain_base.specs.Level.{lat_step_of, lon_step_of, rows_of, columns_
 use Rattle.tms_tree.specs.declared.place.Place.{Place}
 use Rattle.cell_mosaic.specs.declared.spot.Spot.{Spot}
 
--- how far the place lies east of the square's west side, in parts of an arc-second of which it has place.d; a whole
--- turn has 1296000 arc-seconds and is left aside
+-- how far the place lies east of the square's west side, in parts of an arc-second of which it has
+-- place.d; a whole turn has 1296000 arc-seconds and is left aside
 abbrev pub east_of : Square → Place → ℕ
 east_of square place = (648000 * place.p + 3600 * place.d * (360 - square.lon)) % (1296000 * place.d)
 

@@ -25,13 +25,16 @@ fn post_if<P: PostSource, S: Store>(
     counts: bool,
 ) -> Result<Post, SourceFault>
     requires known { IsSome (map.get (P.shapes src.old) square) }
-    requires within { IfSome (map.get (P.shapes src.old) square) (λ level. IsTrue counts → (col < columns_of square level) × (row < rows_of level)) }
-    ensures post { (told : Cells) → P.cells src.old (S.holds store.old) ≡ Some told → IsTrue counts → IfOk result (λ post. post ≡ post_of told square col row) }
+    requires within { IfSome (map.get (P.shapes src.old) square) (λ level. IsTrue counts → (col < columns_of square level)
+        × (row < rows_of level)) }
+    ensures post { (told : Cells) → P.cells src.old (S.holds store.old) ≡ Some told → IsTrue counts
+        → IfOk result (λ post. post ≡ post_of told square col row) }
     ensures height { IfOk result IsPost }
     ensures sure { IsTrue (P.sure src.old) → IsOk result }
     ensures cause { HasCause (S.faults store.old) (S.faults store.new) result }
     ensures shown { Shown (P.shapes src.old) (P.cells src.old (S.holds store.old)) (S.holds store.old) result }
-    ensures keeps { Keeps P.cells P.shapes P.sure src.old src.new (S.holds store.old) (S.holds store.new) (S.log store.old) (S.log store.new) }
+    ensures keeps { Keeps P.cells P.shapes P.sure src.old src.new (S.holds store.old) (S.holds store.new)
+        (S.log store.old) (S.log store.new) }
 {
     if counts {
         src.post(store, square, col, row)
@@ -49,12 +52,14 @@ fn quad_round<P: PostSource, S: Store>(
 ) -> Result<Quad, SourceFault>
     requires known { IsSome (map.get (P.shapes src.old) square) }
     requires fits { IfSome (map.get (P.shapes src.old) square) (λ level. Fits square level spot.now) }
-    ensures quad { (told : Cells) → P.cells src.old (S.holds store.old) ≡ Some told → IfOk result (AreCounted (post_of told square) spot.now) }
+    ensures quad { (told : Cells) → P.cells src.old (S.holds store.old) ≡ Some told
+        → IfOk result (AreCounted (post_of told square) spot.now) }
     ensures heights { IfOk result ArePosts }
     ensures sure { IsTrue (P.sure src.old) → IsOk result }
     ensures cause { HasCause (S.faults store.old) (S.faults store.new) result }
     ensures shown { Shown (P.shapes src.old) (P.cells src.old (S.holds store.old)) (S.holds store.old) result }
-    ensures keeps { Keeps P.cells P.shapes P.sure src.old src.new (S.holds store.old) (S.holds store.new) (S.log store.old) (S.log store.new) }
+    ensures keeps { Keeps P.cells P.shapes P.sure src.old src.new (S.holds store.old) (S.holds store.new)
+        (S.log store.old) (S.log store.new) }
 {
     let (col, row) = (spot.col, spot.row);
     let (east, north) = (spot.east > 0, spot.north > 0);
@@ -76,12 +81,14 @@ pub fn cell_value<P: PostSource, S: Store>(
     requires place { IsPlace place }
     requires known { IsSome (map.get (P.shapes src.old) square) }
     requires held { Holds (square_rectangle square) (point_of place) }
-    ensures value { (told : Cells) → P.cells src.old (S.holds store.old) ≡ Some told → IfOk result (λ value. value ≡ value_in_square told square place) }
+    ensures value { (told : Cells) → P.cells src.old (S.holds store.old) ≡ Some told
+        → IfOk result (λ value. value ≡ value_in_square told square place) }
     ensures height { IfOk result IsPost }
     ensures sure { IsTrue (P.sure src.old) → IsOk result }
     ensures cause { HasCause (S.faults store.old) (S.faults store.new) result }
     ensures shown { Shown (P.shapes src.old) (P.cells src.old (S.holds store.old)) (S.holds store.old) result }
-    ensures keeps { Keeps P.cells P.shapes P.sure src.old src.new (S.holds store.old) (S.holds store.new) (S.log store.old) (S.log store.new) }
+    ensures keeps { Keeps P.cells P.shapes P.sure src.old src.new (S.holds store.old) (S.holds store.new)
+        (S.log store.old) (S.log store.new) }
 {
     let Some(level) = src.shape(square) else {
         unreachable!()

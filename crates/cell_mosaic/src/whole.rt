@@ -64,7 +64,8 @@ impl WholeCells {
         }
     }
 
-    /// Holds one more cell, of a square that has none yet. For want of memory alone it hands the cell back and changes nothing.
+    /// Holds one more cell, of a square that has none yet. For want of memory alone it hands the cell
+    /// back and changes nothing.
     pub fn put(&mut self, cell: CellBytes) -> Result<(), NoRoom>
         requires { IsNone (map.get (levels_in self.old) (square_in cell)) }
         ensures ok { OnOk result (cells_in self.new ≡ map.insert (cells_in self.old) (square_in cell) cell) }

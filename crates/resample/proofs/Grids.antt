@@ -11,17 +11,22 @@ use Rattle.tms_tree.specs.Place.{place_of}
 use Rattle.cell_mosaic.specs.Cells.{Cells}
 use Rattle.resample.specs.Height.{height_at, grid_height, grid_of}
 
-pub put_same : (grid : List ℤ) (i j : ℕ) (z : ℤ) → length grid ≡ 4489 → i ≤ 66 → j ≤ 66 → height_in (slice_set grid (spot i j) z) i j ≡ z
-put_same grid i j z full h k = let within : spot i j < length grid = omega arith in get_or-set_same grid (spot i j) z (pos 0) within
+pub put_same : (grid : List ℤ) (i j : ℕ) (z : ℤ) → length grid ≡ 4489 → i ≤ 66 → j ≤ 66
+    → height_in (slice_set grid (spot i j) z) i j ≡ z
+put_same grid i j z full h k = let within : spot i j < length grid = omega arith in get_or-set_same grid
+    (spot i j) z (pos 0) within
 
-pub put_other : (grid : List ℤ) (i j k row : ℕ) (z : ℤ) → spot k row ≢ spot i j → height_in (slice_set grid (spot i j) z) k row ≡ height_in grid k row
+pub put_other : (grid : List ℤ) (i j k row : ℕ) (z : ℤ) → spot k row ≢ spot i j
+    → height_in (slice_set grid (spot i j) z) k row ≡ height_in grid k row
 put_other grid i j k row z apart = get_or-set_other grid (spot i j) (spot k row) z (pos 0) apart
 
 pub grid_is : (cells : Cells) (fill : ℤ) (tile : TileId) (grid : List ℤ) → length grid ≡ 4489
-    → ((i j : ℕ) → i ≤ 66 → j < 67 → height_in grid i j ≡ height_at cells fill (place_of tile i j)) → grid ≡ grid_of cells fill tile
+    → ((i j : ℕ) → i ≤ 66 → j < 67 → height_in grid i j ≡ height_at cells fill (place_of tile i j))
+    → grid ≡ grid_of cells fill tile
 unfolding grid_of
 grid_is cells fill tile grid full all =
-    ext_get_or (pos 0) grid (map (grid_height cells fill tile) (range_with_len 0 4489)) (full ∙ sym (length-map-range_with_len (grid_height cells fill tile) 0 4489)) (λ k h.
+    ext_get_or (pos 0) grid (map (grid_height cells fill tile) (range_with_len 0 4489))
+    (full ∙ sym (length-map-range_with_len (grid_height cells fill tile) 0 4489)) (λ k h.
     let whole = div-add-mod' k 67 in
     let rest = mod_below k 67 (omega arith) in
     let below : k < 4489 = omega arith in

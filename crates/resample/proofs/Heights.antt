@@ -10,13 +10,18 @@ use Rattle.cell_mosaic.specs.Value.{value_in_square}
 use Rattle.resample.specs.Height.{metres_or, first_height, values_at}
 
 -- one square less
-pub next_is : (told : Cells) (fill : ℤ) (place : Place) (squares : List Square) (k : ℕ) (square : Square) (value : Post) → k < length squares → square ≡ get_or squares k square
-    → value ≡ value_in_square told square place → first_height fill (values_at told place (drop k squares)) ≡ metres_or (first_height fill (values_at told place (drop (k + 1) squares))) value
+pub next_is : (told : Cells) (fill : ℤ) (place : Place) (squares : List Square) (k : ℕ) (square : Square)
+    (value : Post) → k < length squares → square ≡ get_or squares k square
+    → value ≡ value_in_square told square place → first_height fill (values_at told place (drop k squares))
+    ≡ metres_or (first_height fill (values_at told place (drop (k + 1) squares))) value
 next_is told fill place squares k square value h at e =
     at_drop_more (λ xs. first_height fill (values_at told place xs)) squares k square h
-    ∙ ap (λ s. metres_or (first_height fill (values_at told place (drop (k + 1) squares))) (value_in_square told s place)) (sym at)
+    ∙ ap (λ s. metres_or (first_height fill (values_at told place (drop (k + 1) squares)))
+    (value_in_square told s place)) (sym at)
     ∙ ap (metres_or (first_height fill (values_at told place (drop (k + 1) squares)))) (sym e)
 
 -- none is left
-pub last_is : (told : Cells) (fill : ℤ) (place : Place) (squares : List Square) (k : ℕ) → length squares ≤ k → first_height fill (values_at told place (drop k squares)) ≡ fill
-last_is told fill place squares k h = at_drop_all (λ xs. first_height fill (values_at told place xs)) squares k h
+pub last_is : (told : Cells) (fill : ℤ) (place : Place) (squares : List Square) (k : ℕ) → length squares ≤ k
+    → first_height fill (values_at told place (drop k squares)) ≡ fill
+last_is told fill place squares k h = at_drop_all (λ xs. first_height fill (values_at told place xs)) squares
+    k h

@@ -23,13 +23,15 @@ fn fill_row<P: PostSource, S: Store>(
 ) -> Result<(), SourceFault>
     requires row { j ≤ 66 }
     requires fill { IsHeight fill }
-    ensures value { (told : Cells) → P.cells src.old (S.holds store.old) ≡ Some told → OnOk result ((i : ℕ) → i ≤ 66 → height_in out.new i j ≡ height_at told fill (place_of tile i j)) }
+    ensures value { (told : Cells) → P.cells src.old (S.holds store.old) ≡ Some told
+        → OnOk result ((i : ℕ) → i ≤ 66 → height_in out.new i j ≡ height_at told fill (place_of tile i j)) }
     ensures others { OnOk result ((i k : ℕ) → i ≤ 66 → k < j → height_in out.new i k ≡ height_in out.old i k) }
     ensures full { OnOk result (length out.new ≡ 4489) }
     ensures sure { IsTrue (P.sure src.old) → IsOk result }
     ensures cause { HasCause (S.faults store.old) (S.faults store.new) result }
     ensures shown { Shown (P.shapes src.old) (P.cells src.old (S.holds store.old)) (S.holds store.old) result }
-    ensures keeps { Keeps P.cells P.shapes P.sure src.old src.new (S.holds store.old) (S.holds store.new) (S.log store.old) (S.log store.new) }
+    ensures keeps { Keeps P.cells P.shapes P.sure src.old src.new (S.holds store.old) (S.holds store.new)
+        (S.log store.old) (S.log store.new) }
 {
     for i in 0..67 {
         let metres = height(src, store, fill, tile_place(tile, i, j))?;
@@ -48,11 +50,13 @@ pub fn tile_grid<P: PostSource, S: Store>(
     out: &mut Grid,
 ) -> Result<(), SourceFault>
     requires { IsHeight fill }
-    ensures value { (told : Cells) → P.cells src.old (S.holds store.old) ≡ Some told → OnOk result (out.new ≡ grid_of told fill tile) }
+    ensures value { (told : Cells) → P.cells src.old (S.holds store.old) ≡ Some told
+        → OnOk result (out.new ≡ grid_of told fill tile) }
     ensures sure { IsTrue (P.sure src.old) → IsOk result }
     ensures cause { HasCause (S.faults store.old) (S.faults store.new) result }
     ensures shown { Shown (P.shapes src.old) (P.cells src.old (S.holds store.old)) (S.holds store.old) result }
-    ensures keeps { Keeps P.cells P.shapes P.sure src.old src.new (S.holds store.old) (S.holds store.new) (S.log store.old) (S.log store.new) }
+    ensures keeps { Keeps P.cells P.shapes P.sure src.old src.new (S.holds store.old) (S.holds store.new)
+        (S.log store.old) (S.log store.new) }
 {
     for j in 0..67 {
         fill_row(src, store, fill, tile, j, out)?;

@@ -21,12 +21,14 @@ fn value_at<P: PostSource, S: Store>(
 ) -> Result<Post, SourceFault>
     requires place { IsPlace place }
     requires held { Holds (square_rectangle square) (point_of place) }
-    ensures value { (told : Cells) → P.cells src.old (S.holds store.old) ≡ Some told → IfOk result (λ value. value ≡ value_in_square told square place) }
+    ensures value { (told : Cells) → P.cells src.old (S.holds store.old) ≡ Some told
+        → IfOk result (λ value. value ≡ value_in_square told square place) }
     ensures height { IfOk result IsPost }
     ensures sure { IsTrue (P.sure src.old) → IsOk result }
     ensures cause { HasCause (S.faults store.old) (S.faults store.new) result }
     ensures shown { Shown (P.shapes src.old) (P.cells src.old (S.holds store.old)) (S.holds store.old) result }
-    ensures keeps { Keeps P.cells P.shapes P.sure src.old src.new (S.holds store.old) (S.holds store.new) (S.log store.old) (S.log store.new) }
+    ensures keeps { Keeps P.cells P.shapes P.sure src.old src.new (S.holds store.old) (S.holds store.new)
+        (S.log store.old) (S.log store.new) }
 {
     match src.shape(square) {
         Some(_) => cell_value(src, store, square, place),
@@ -45,12 +47,14 @@ pub fn height<P: PostSource, S: Store>(
 ) -> Result<i16, SourceFault>
     requires place { IsPlace place }
     requires fill { IsHeight fill }
-    ensures value { (told : Cells) → P.cells src.old (S.holds store.old) ≡ Some told → IfOk result (λ metres. metres ≡ height_at told fill place) }
+    ensures value { (told : Cells) → P.cells src.old (S.holds store.old) ≡ Some told
+        → IfOk result (λ metres. metres ≡ height_at told fill place) }
     ensures height { IfOk result IsHeight }
     ensures sure { IsTrue (P.sure src.old) → IsOk result }
     ensures cause { HasCause (S.faults store.old) (S.faults store.new) result }
     ensures shown { Shown (P.shapes src.old) (P.cells src.old (S.holds store.old)) (S.holds store.old) result }
-    ensures keeps { Keeps P.cells P.shapes P.sure src.old src.new (S.holds store.old) (S.holds store.new) (S.log store.old) (S.log store.new) }
+    ensures keeps { Keeps P.cells P.shapes P.sure src.old src.new (S.holds store.old) (S.holds store.new)
+        (S.log store.old) (S.log store.new) }
 {
     let squares = candidates(place);
     for k in 0..squares.count() {

@@ -30,4 +30,5 @@ pub returns-clause-value : goal.returns-clause-value
 returns-clause-value g c = λ told is.
     let invariant = c.loop-j.invariant in
     grid_is told c.args.fill c.args.tile c.loop-j.out (invariant.3 (omega (arith, c.loop-j-test.false)))
-    (λ i j h k. invariant.2 told is i j h (omega (arith, k, c.loop-j-test.false)) ∙ ap (λ f. height_at told f (place_of c.args.tile i j)) (passed_height c.args.fill c.requires))
+    (λ i j h k. invariant.2 told is i j h (omega (arith, k, c.loop-j-test.false))
+    ∙ ap (λ f. height_at told f (place_of c.args.tile i j)) (passed_height c.args.fill c.requires))

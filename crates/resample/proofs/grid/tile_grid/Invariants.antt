@@ -10,7 +10,9 @@ abbrev pub invariant-loop-j : goal.invariant-loop-j
 invariant-loop-j g l =
     let source = g.P.PostSource in
     let store = g.S.Store in
-    (Keeps source.cells source.shapes source.sure l.fn.src l.src (store.holds l.fn.store) (store.holds l.store) (store.log l.fn.store) (store.log l.store))
+    (Keeps source.cells source.shapes source.sure l.fn.src l.src (store.holds l.fn.store)
+    (store.holds l.store) (store.log l.fn.store) (store.log l.store))
     × (store.faults l.fn.store ≤ store.faults l.store)
-    × ((told : Cells) → source.cells l.fn.src (store.holds l.fn.store) ≡ Some told → (k row : ℕ) → k ≤ 66 → row < l.j → height_in l.out k row ≡ height_at told l.fill (place_of l.tile k row))
+    × ((told : Cells) → source.cells l.fn.src (store.holds l.fn.store) ≡ Some told → (k row : ℕ) → k ≤ 66
+    → row < l.j → height_in l.out k row ≡ height_at told l.fill (place_of l.tile k row))
     × (0 < l.j → length l.out ≡ 4489)

@@ -8,6 +8,8 @@ abbrev pub invariant-loop-k : goal.invariant-loop-k
 invariant-loop-k g l =
     let source = g.P.PostSource in
     let store = g.S.Store in
-    (Keeps source.cells source.shapes source.sure l.fn.src l.src (store.holds l.fn.store) (store.holds l.store) (store.log l.fn.store) (store.log l.store))
+    (Keeps source.cells source.shapes source.sure l.fn.src l.src (store.holds l.fn.store)
+    (store.holds l.store) (store.log l.fn.store) (store.log l.store))
     × (store.faults l.fn.store ≤ store.faults l.store)
-    × ((told : Cells) → source.cells l.fn.src (store.holds l.fn.store) ≡ Some told → first_height l.fill (values_at told l.place (drop l.k l.squares)) ≡ height_at told l.fill l.place)
+    × ((told : Cells) → source.cells l.fn.src (store.holds l.fn.store) ≡ Some told
+    → first_height l.fill (values_at told l.place (drop l.k l.squares)) ≡ height_at told l.fill l.place)

@@ -5,7 +5,9 @@ use Rattle.cell_mosaic.proofs.whole.WholeCellsPostSource.shape.Goals as goal
 
 pub returns-in-Some : goal.returns-in-Some
 returns-in-Some c =
-    ap Some (c.level.ensures ∙ ap level_in c.view.ensures) ∙ ap (option_map level_in) c.in-Some.ensures.value ∙ sym (get_levels c.args.self.now.cells.entries c.args.square)
+    ap Some (c.level.ensures ∙ ap level_in c.view.ensures) ∙ ap (option_map level_in) c.in-Some.ensures.value
+    ∙ sym (get_levels c.args.self.now.cells.entries c.args.square)
 
 pub returns-in-None : goal.returns-in-None
-returns-in-None c = ap (option_map level_in) c.in-None.ensures.value ∙ sym (get_levels c.args.self.now.cells.entries c.args.square)
+returns-in-None c = ap (option_map level_in) c.in-None.ensures.value
+    ∙ sym (get_levels c.args.self.now.cells.entries c.args.square)
