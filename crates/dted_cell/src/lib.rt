@@ -12,11 +12,10 @@ mod lead;
 mod profile;
 mod record;
 mod refusal;
-mod trouble;
-mod view;
-
 #[cfg(test)]
 mod tests;
+mod trouble;
+mod view;
 
 pub use bytes::{CellBytes, RefusedCell};
 pub use profile::ProfileView;

@@ -13,3 +13,15 @@ pub mod Joins
 pub mod Strips
 pub mod StripProof
 pub mod Sizes
+pub mod Heights
+pub mod Edges
+pub mod SweepHeights
+pub mod StripHeights
+pub mod StripFrames
+pub mod FrameHeights
+pub mod FanHeights
+pub mod Quads
+pub mod Covers
+pub mod QuadLines
+pub mod QuadHeights
+pub mod Surfaces

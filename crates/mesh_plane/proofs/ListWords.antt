@@ -1,5 +1,5 @@
 -- The words of clauses on each, some and each two elements of a list, and the same by recursion.
-use Rattle.std.proofs.Common.{◌≡◌, ℕ, zero, suc, ◌+◌, ◌<◌, refl, sym, ap, subst, arith, List, [], ◌∷◌, ◌++◌, map, inl, inr, length}
+use Rattle.std.proofs.Common.{◌≡◌, ℕ, zero, suc, ◌<◌, refl, sym, subst, arith, List, [], ◌∷◌, map, inl, inr, length}
 use Rattle.std.specs.Prelude.{◌⊎◌, All, Any, AllPairs, slice_index_or}
 use Rattle.std.specs.List.{AllByRecursion}
 
@@ -33,7 +33,8 @@ module _ {X : Type 0} where
   pub pairs_none : (R : X → X → Type 0) → AllPairs R []
   pairs_none R i j d a b = absurd (omega arith)
 
-  pub pairs_cons : (R : X → X → Type 0) (x : X) (xs : List X) → All (R x) xs → AllPairs R xs → AllPairs R (x ∷ xs)
+  pub pairs_cons : (R : X → X → Type 0) (x : X) (xs : List X) → All (R x) xs → AllPairs R xs
+      → AllPairs R (x ∷ xs)
   pairs_cons R x xs head tail i zero d a b = absurd (omega arith)
   pairs_cons R x xs head tail zero (suc j) d a b = head j d (omega arith)
   pairs_cons R x xs head tail (suc i) (suc j) d a b = tail i j d (omega arith) (omega arith)
@@ -44,10 +45,12 @@ module _ {X : Type 0} where
   pub pairs_tail : (R : X → X → Type 0) (x : X) (xs : List X) → AllPairs R (x ∷ xs) → AllPairs R xs
   pairs_tail R x xs h i j d a b = h (suc i) (suc j) d (omega arith) (omega arith)
 
-pub all_map_to : {X Y : Type 0} (P : Y → Type 0) (f : X → Y) (xs : List X) → AllByRecursion P (map f xs) → AllByRecursion (λ x. P (f x)) xs
+pub all_map_to : {X Y : Type 0} (P : Y → Type 0) (f : X → Y) (xs : List X) → AllByRecursion P (map f xs)
+    → AllByRecursion (λ x. P (f x)) xs
 all_map_to P f [] h = tt
 all_map_to P f (x ∷ xs) h = (h.0, all_map_to P f xs h.1)
 
-pub all_map_from : {X Y : Type 0} (P : Y → Type 0) (f : X → Y) (xs : List X) → AllByRecursion (λ x. P (f x)) xs → AllByRecursion P (map f xs)
+pub all_map_from : {X Y : Type 0} (P : Y → Type 0) (f : X → Y) (xs : List X)
+    → AllByRecursion (λ x. P (f x)) xs → AllByRecursion P (map f xs)
 all_map_from P f [] h = tt
 all_map_from P f (x ∷ xs) h = (h.0, all_map_from P f xs h.1)

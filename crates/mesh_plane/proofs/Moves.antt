@@ -1,9 +1,8 @@
 -- Tilings of which each triangle is turned on by one corner, or mirrored.
-use Rattle.std.proofs.Common.{◌≡◌, refl, ap, sym, ◌∙◌, arith, List, [], ◌∷◌, map, inl, inr, ⊎_elim}
-use Rattle.std.specs.Prelude.{ℤ, pos, ◌-ℤ◌, ◌≤ℤ◌, ◌<ℤ◌, ◌⊎◌}
+use Rattle.std.proofs.Common.{◌≡◌, refl, arith, List, [], ◌∷◌, map, inl, inr}
 use Rattle.std.specs.List.{AllByRecursion}
 use Rattle.std.proofs.lemmas.Int.{ints}
-use Rattle.polynomial.proofs.Expressions.{Expr, var, num, add, sub, mul}
+use Rattle.polynomial.proofs.Expressions.{var}
 use Rattle.polynomial.proofs.NormalForm.{by_ring}
 use Rattle.mesh_plane.specs.Plane.{Point, point}
 use Rattle.mesh_plane.specs.Triangles.{Triple}
@@ -11,13 +10,15 @@ use Rattle.mesh_plane.proofs.Turns.{turn, turned, turned_on, turned_points, poin
 use Rattle.mesh_plane.proofs.Tilings.{IsCcw, Within, Inside, Held, HeldInside, NoneTwice, Tiling}
 
 -- f t, placed by `to`, is to p what t, placed by `from`, is to back p
-pub record Alike {A B : Type 0} (from : A → Point) (to : B → Point) (f : Triple A → Triple B) (back : Point → Point) : Type 0 where
+pub record Alike {A B : Type 0} (from : A → Point) (to : B → Point) (f : Triple A → Triple B) (back : Point
+    → Point) : Type 0 where
   pub ccw : (t : Triple A) → IsCcw from t → IsCcw to (f t)
   pub out : (t : Triple A) (p : Point) → Within to (f t) p → Within from t (back p)
   pub into : (t : Triple A) (p : Point) → Within from t (back p) → Within to (f t) p
   pub inside : (t : Triple A) (p : Point) → Inside to (f t) p → Inside from t (back p)
 
-module _ {A B : Type 0} (from : A → Point) (to : B → Point) (f : Triple A → Triple B) (back : Point → Point) (alike : Alike from to f back) where
+module _ {A B : Type 0} (from : A → Point) (to : B → Point) (f : Triple A → Triple B) (back : Point
+    → Point) (alike : Alike from to f back) where
   moved_ccw : (ts : List (Triple A)) → AllByRecursion (IsCcw from) ts → AllByRecursion (IsCcw to) (map f ts)
   moved_ccw [] h = tt
   moved_ccw (t ∷ ts) h = (alike.ccw t h.0, moved_ccw ts h.1)
@@ -72,21 +73,31 @@ flipped t = record { a = t.a; b = t.c; c = t.b }
 
 pub turn_swapped : (a b p : Point) → turn (swapped a) (swapped b) (swapped p) ≡ turn b a p
 turn_swapped a b p =
-    by_ring (turned (var 1) (var 0) (var 3) (var 2) (var 5) (var 4)) (turned_points 1 0 2) (points (a ∷ b ∷ p ∷ [])) refl
+    by_ring (turned (var 1) (var 0) (var 3) (var 2) (var 5) (var 4)) (turned_points 1 0 2)
+    (points (a ∷ b ∷ p ∷ [])) refl
 
 pub flipped_alike : {A : Type 0} (at : A → Point) → Alike (λ k. swapped (at k)) at flipped swapped
 flipped_alike at = record {
-  ccw = λ t h. omega (arith, ints, h, turn_swapped (at t.a) (at t.b) (at t.c), turned_on (at t.b) (at t.a) (at t.c));
+  ccw = λ t h. omega (
+    arith,
+    ints,
+    h,
+    turn_swapped (at t.a) (at t.b) (at t.c),
+    turned_on (at t.b) (at t.a) (at t.c),
+  );
   out = λ t p h. record {
     ab = omega (arith, ints, h.ca, turn_swapped (at t.a) (at t.b) p);
     bc = omega (arith, ints, h.bc, turn_swapped (at t.b) (at t.c) p);
-    ca = omega (arith, ints, h.ab, turn_swapped (at t.c) (at t.a) p) };
+    ca = omega (arith, ints, h.ab, turn_swapped (at t.c) (at t.a) p);
+  };
   into = λ t p h. record {
     ab = omega (arith, ints, h.ca, turn_swapped (at t.c) (at t.a) p);
     bc = omega (arith, ints, h.bc, turn_swapped (at t.b) (at t.c) p);
-    ca = omega (arith, ints, h.ab, turn_swapped (at t.a) (at t.b) p) };
+    ca = omega (arith, ints, h.ab, turn_swapped (at t.a) (at t.b) p);
+  };
   inside = λ t p h. record {
     ab = omega (arith, ints, h.ca, turn_swapped (at t.a) (at t.b) p);
     bc = omega (arith, ints, h.bc, turn_swapped (at t.b) (at t.c) p);
-    ca = omega (arith, ints, h.ab, turn_swapped (at t.c) (at t.a) p) };
+    ca = omega (arith, ints, h.ab, turn_swapped (at t.c) (at t.a) p);
+  };
 }

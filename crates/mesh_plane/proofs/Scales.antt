@@ -1,27 +1,29 @@
 -- What holds at every scale, from what holds of the corners multiplied by the scale.
-use Rattle.std.proofs.Common.{◌≡◌, refl, ap, sym, arith, ◌∙◌, List, [], ◌∷◌, ◌++◌, map, inl, inr, ⊎_elim, subst}
-use Rattle.std.specs.Prelude.{ℤ, pos, ◌+ℤ◌, ◌-ℤ◌, ◌*ℤ◌, ◌≤ℤ◌, ◌<ℤ◌, ◌⊎◌, All, Any, AllPairs}
+use Rattle.std.proofs.Common.{◌≡◌, refl, arith, List, [], ◌∷◌, map, inl, inr}
+use Rattle.std.specs.Prelude.{ℤ, pos, ◌-ℤ◌, ◌*ℤ◌, ◌≤ℤ◌, ◌<ℤ◌, ◌⊎◌, All, Any}
 use Rattle.std.specs.List.{AllByRecursion}
 use Rattle.std.proofs.lemmas.Int.{ints}
-use Rattle.polynomial.proofs.Expressions.{Expr, var, num, add, sub, mul}
+use Rattle.polynomial.proofs.Expressions.{var, num, mul}
 use Rattle.polynomial.proofs.NormalForm.{by_ring}
-use Rattle.polynomial.proofs.Signs.{times_nonneg, times_pos, factor_nonneg, factor_pos, weaken}
+use Rattle.polynomial.proofs.Signs.{times_nonneg, times_pos, factor_nonneg, factor_pos}
 use Rattle.mesh_plane.specs.declared.corner.Corner.{Corner}
 use Rattle.mesh_plane.specs.declared.corner.Tri.{Tri}
-use Rattle.mesh_plane.specs.Plane.{Point, point, place_at, side_of, doubled_area, IsCounterClockwise, Holds, HoldsStrictly}
+use Rattle.mesh_plane.specs.Plane.{Point, point, side_of, doubled_area, IsCounterClockwise, Holds, HoldsStrictly}
 use Rattle.mesh_plane.specs.Triangles.{Triple}
 use Rattle.mesh_plane.specs.Cover.{HeldOnce, Tiles}
 use Rattle.mesh_plane.proofs.Turns.{turn, turned, side_scaled}
 use Rattle.mesh_plane.proofs.Sweeps.{difference}
 use Rattle.mesh_plane.proofs.Tilings.{IsCcw, Within, Inside, Held, HeldInside, NoneTwice, Tiling, all_map}
-use Rattle.mesh_plane.proofs.ListWords.{all_from, all_to, any_here, any_there, any_none, any_cases, pairs_none, pairs_cons, pairs_head, pairs_tail, all_map_to, all_map_from}
+use Rattle.mesh_plane.proofs.ListWords.{all_from, all_to, any_here, any_there, any_none, any_cases, pairs_none, pairs_cons, pairs_head, pairs_tail, all_map_from}
 
 -- ---- multiplied numbers keep their order
 pub grow_le : (s a b : ℤ) → pos 1 ≤ℤ s → a ≤ℤ b → (s *ℤ a) ≤ℤ (s *ℤ b)
-grow_le s a b h k = omega (arith, ints, difference s b a, times_nonneg s (b -ℤ a) (omega (arith, ints)) (omega (arith, ints)))
+grow_le s a b h k =
+    omega (arith, ints, difference s b a, times_nonneg s (b -ℤ a) (omega (arith, ints)) (omega (arith, ints)))
 
 pub grow_lt : (s a b : ℤ) → pos 1 ≤ℤ s → a <ℤ b → (s *ℤ a) <ℤ (s *ℤ b)
-grow_lt s a b h k = omega (arith, ints, difference s b a, times_pos s (b -ℤ a) (omega (arith, ints)) (omega (arith, ints)))
+grow_lt s a b h k =
+    omega (arith, ints, difference s b a, times_pos s (b -ℤ a) (omega (arith, ints)) (omega (arith, ints)))
 
 pub nonneg_in : (s d t : ℤ) → pos 1 ≤ℤ s → s *ℤ d ≡ t → pos 0 ≤ℤ d → pos 0 ≤ℤ t
 nonneg_in s d t h e k = omega (arith, ints, e, times_nonneg s d (omega (arith, ints)) k)
@@ -48,20 +50,28 @@ module _ {A : Type 0} (at : A → Point) (z : A → ℤ) where
   scaled s k = point (s *ℤ (at k).u) (s *ℤ (at k).v)
 
   -- ---- one triangle
-  pub area_scaled : (s : ℤ) (t : Triple A) → turn (scaled s t.a) (scaled s t.b) (scaled s t.c) ≡ (s *ℤ s) *ℤ doubled_area (placed t)
+  pub area_scaled : (s : ℤ) (t : Triple A)
+      → turn (scaled s t.a) (scaled s t.b) (scaled s t.c) ≡ (s *ℤ s) *ℤ doubled_area (placed t)
   area_scaled s t =
       by_ring
-        (turned (mul (var 6) (var 0)) (mul (var 6) (var 1)) (mul (var 6) (var 2)) (mul (var 6) (var 3)) (mul (var 6) (var 4)) (mul (var 6) (var 5)))
-        (mul (mul (var 6) (var 6)) (turned (var 0) (var 1) (var 2) (var 3) (var 4) (var 5)))
-        ((at t.a).u ∷ (at t.a).v ∷ (at t.b).u ∷ (at t.b).v ∷ (at t.c).u ∷ (at t.c).v ∷ s ∷ []) refl
+      (turned (mul (var 6) (var 0)) (mul (var 6) (var 1)) (mul (var 6) (var 2)) (mul (var 6) (var 3))
+      (mul (var 6) (var 4)) (mul (var 6) (var 5)))
+      (mul (mul (var 6) (var 6)) (turned (var 0) (var 1) (var 2) (var 3) (var 4) (var 5)))
+      ((at t.a).u ∷ (at t.a).v ∷ (at t.b).u ∷ (at t.b).v ∷ (at t.c).u ∷ (at t.c).v ∷ s ∷ []) refl
 
   pub ccw_out : (t : Triple A) → IsCcw (scaled (pos 1)) t → IsCounterClockwise (placed t)
   ccw_out t h =
-      omega (arith, ints, h, area_scaled (pos 1) t,
-        by_ring (mul (mul (num 1) (num 1)) (var 0)) (var 0) (doubled_area (placed t) ∷ []) refl)
+      omega (
+        arith,
+        ints,
+        h,
+        area_scaled (pos 1) t,
+        by_ring (mul (mul (num 1) (num 1)) (var 0)) (var 0) (doubled_area (placed t) ∷ []) refl,
+      )
 
   module _ (s x y : ℤ) (h : pos 1 ≤ℤ s) where
-    side_is : (k l : A) → s *ℤ side_of (corner_of k) (corner_of l) s x y ≡ turn (scaled s k) (scaled s l) (point x y)
+    side_is : (k l : A)
+        → s *ℤ side_of (corner_of k) (corner_of l) s x y ≡ turn (scaled s k) (scaled s l) (point x y)
     side_is k l = side_scaled (corner_of k) (corner_of l) s x y
 
     abbrev edge : A → A → ℤ
@@ -108,7 +118,8 @@ module _ {A : Type 0} (at : A → Point) (z : A → ℤ) where
     held_any [] i = any_none (Holds s x y) i
     held_any (t ∷ ts) i = go (any_cases (Holds s x y) (placed t) (map placed ts) i) (held_any ts)
       where
-        go : Holds s x y (placed t) ⊎ Any (Holds s x y) (map placed ts) → (Any (Holds s x y) (map placed ts) → Held (scaled s) (point x y) ts)
+        go : Holds s x y (placed t) ⊎ Any (Holds s x y) (map placed ts)
+            → (Any (Holds s x y) (map placed ts) → Held (scaled s) (point x y) ts)
             → Held (scaled s) (point x y) (t ∷ ts)
         go (inl j) f = inl (holds_in t j)
         go (inr j) f = inr (f j)
@@ -116,17 +127,19 @@ module _ {A : Type 0} (at : A → Point) (z : A → ℤ) where
     abbrev NotBoth : Tri → Tri → Type 0
     NotBoth t u = ¬ (HoldsStrictly s x y t × HoldsStrictly s x y u)
 
-    not_both : (t : Triple A) (ts : List (Triple A)) → (Inside (scaled s) t (point x y) → ¬ HeldInside (scaled s) (point x y) ts)
+    not_both : (t : Triple A) (ts : List (Triple A))
+        → (Inside (scaled s) t (point x y) → ¬ HeldInside (scaled s) (point x y) ts)
         → AllByRecursion (NotBoth (placed t)) (map placed ts)
     not_both t [] f = tt
     not_both t (u ∷ us) f =
         (λ i. f (strictly_in t i.0) (inl (strictly_in u i.1)), not_both t us (λ i j. f i (inr j)))
 
-    pub once_out : (ts : List (Triple A)) → NoneTwice (scaled s) (point x y) ts → HeldOnce s x y (map placed ts)
+    pub once_out : (ts : List (Triple A)) → NoneTwice (scaled s) (point x y) ts
+        → HeldOnce s x y (map placed ts)
     once_out [] i = pairs_none NotBoth
     once_out (t ∷ ts) i =
         pairs_cons NotBoth (placed t) (map placed ts)
-          (all_from (NotBoth (placed t)) (map placed ts) (not_both t ts i.0)) (once_out ts i.1)
+        (all_from (NotBoth (placed t)) (map placed ts) (not_both t ts i.0)) (once_out ts i.1)
 
     none_inside : (t : Triple A) (ts : List (Triple A)) → AllByRecursion (NotBoth (placed t)) (map placed ts)
         → Inside (scaled s) t (point x y) → ¬ HeldInside (scaled s) (point x y) ts
@@ -134,16 +147,21 @@ module _ {A : Type 0} (at : A → Point) (z : A → ℤ) where
     none_inside t (u ∷ us) f i (inl j) = f.0 (strictly_out t i, strictly_out u j)
     none_inside t (u ∷ us) f i (inr j) = none_inside t us f.1 i j
 
-    pub once_in : (ts : List (Triple A)) → HeldOnce s x y (map placed ts) → NoneTwice (scaled s) (point x y) ts
+    pub once_in : (ts : List (Triple A)) → HeldOnce s x y (map placed ts)
+        → NoneTwice (scaled s) (point x y) ts
     once_in [] i = tt
-    once_in (t ∷ ts) i =
-        (none_inside t ts (all_to (NotBoth (placed t)) (map placed ts) (pairs_head NotBoth (placed t) (map placed ts) i)),
-          once_in ts (pairs_tail NotBoth (placed t) (map placed ts) i))
+    once_in (t ∷ ts) i = (
+      none_inside t ts
+          (all_to (NotBoth (placed t)) (map placed ts) (pairs_head NotBoth (placed t) (map placed ts) i)),
+      once_in ts (pairs_tail NotBoth (placed t) (map placed ts) i),
+    )
 
-  pub all_ccw : (ts : List (Triple A)) → AllByRecursion (IsCcw (scaled (pos 1))) ts → All IsCounterClockwise (map placed ts)
+  pub all_ccw : (ts : List (Triple A)) → AllByRecursion (IsCcw (scaled (pos 1))) ts
+      → All IsCounterClockwise (map placed ts)
   all_ccw ts h =
       all_from IsCounterClockwise (map placed ts)
-        (all_map_from IsCounterClockwise placed ts (all_map (IsCcw (scaled (pos 1))) (λ t. IsCounterClockwise (placed t)) ccw_out ts h))
+      (all_map_from IsCounterClockwise placed ts
+      (all_map (IsCcw (scaled (pos 1))) (λ t. IsCounterClockwise (placed t)) ccw_out ts h))
 
   -- what tiles a region at each scale
   pub tiles_at_each_scale : (region inside : ℤ → Point → Type 0) (ts : List (Triple A))

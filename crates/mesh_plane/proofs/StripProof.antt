@@ -1,17 +1,17 @@
 -- The law of strips, at every scale.
-use Rattle.std.proofs.Common.{◌≡◌, refl, ap, sym, arith, ◌∙◌, List, [], ◌∷◌, map}
-use Rattle.std.specs.Prelude.{ℤ, pos, ◌+ℤ◌, ◌-ℤ◌, ◌*ℤ◌, ◌≤ℤ◌, ◌<ℤ◌}
+use Rattle.std.proofs.Common.{◌≡◌, ap, arith, List, [], ◌∷◌}
+use Rattle.std.specs.Prelude.{ℤ, pos, ◌*ℤ◌, ◌≤ℤ◌, ◌<ℤ◌}
 use Rattle.std.proofs.lemmas.Int.{ints}
-use Rattle.polynomial.proofs.Signs.{times_nonneg, times_pos, factor_nonneg, weaken}
+use Rattle.polynomial.proofs.Signs.{times_nonneg, factor_nonneg, factor_pos, weaken}
 use Rattle.mesh_plane.specs.declared.corner.Corner.{Corner}
 use Rattle.mesh_plane.specs.Plane.{Point, point, place_at, side_of}
 use Rattle.mesh_plane.specs.Triangles.{Side, South, East, North, West, Step, Outer, Inner, strip, outer_end, inner_end}
 use Rattle.mesh_plane.specs.Strip.{along, across, IsOutside, Ascend, InQuad, InStrip, StripLaw}
 use Rattle.mesh_plane.proofs.Turns.{turn, turned_back, side_scaled}
-use Rattle.mesh_plane.proofs.Tilings.{Tiling, tiling_same}
+use Rattle.mesh_plane.proofs.Tilings.{tiling_same}
 use Rattle.mesh_plane.proofs.Sweeps.{Goes}
 use Rattle.mesh_plane.proofs.Lines.{reach, goes}
-use Rattle.mesh_plane.proofs.Strips.{depth, lean, InBand, InsideBand, goes_same, strip_tiles, outer_end_on, inner_end_on}
+use Rattle.mesh_plane.proofs.Strips.{InBand, InsideBand, strip_tiles, outer_end_on, inner_end_on}
 use Rattle.mesh_plane.proofs.Scales.{scaled, grow_lt, nonneg_in, nonneg_out, tiles_at_each_scale}
 
 -- ---- the quadrilateral is what lies between the lines and the end segments
@@ -33,52 +33,82 @@ left_in h a b p g k = omega (arith, ints, g.turns p, times_nonneg g.w (h p) (wea
 pub left_out : (h : Point → ℤ) (a b p : Point) (g : Goes h a b) → pos 0 ≤ℤ turn a b p → pos 0 ≤ℤ h p
 left_out h a b p g k = factor_nonneg g.w (h p) g.far (omega (arith, ints, g.turns p, k))
 
+pub strictly_out : (h : Point → ℤ) (a b p : Point) (g : Goes h a b) → pos 0 <ℤ turn a b p → pos 0 <ℤ h p
+strictly_out h a b p g k = factor_pos g.w (h p) g.far (omega (arith, ints, g.turns p, k))
+
 module _ (outer inner : ℤ) (o n o' n' p : Point) where
-  pub band_quad : (side : Side) → across side o ≡ outer → across side n ≡ inner → across side o' ≡ outer → across side n' ≡ inner
-      → along side o <ℤ along side o' → along side n <ℤ along side n' → InBand side outer inner o n o' n' p → QuadOf side o n o' n' p
+  pub band_quad : (side : Side) → across side o ≡ outer → across side n ≡ inner → across side o' ≡ outer
+      → across side n' ≡ inner
+      → along side o <ℤ along side o' → along side n <ℤ along side n' → InBand side outer inner o n o' n' p
+      → QuadOf side o n o' n' p
   band_quad South ho hn ho' hn' lo ln i = record {
-    ab = left_in (reach South outer) o o' p (goes South outer o o' ho (ho', lo)) i.above; bc = i.last;
-    cd = left_in (reach North inner) n' n p (goes North inner n' n hn' (hn, ln)) (omega (arith, ints, i.below));
-    da = omega (arith, ints, i.first, turned_back o n p) }
+    ab = left_in (reach South outer) o o' p (goes South outer o o' ho (ho', lo)) i.above;
+    bc = i.last;
+    cd = left_in (reach North inner) n' n p (goes North inner n' n hn' (hn, ln))
+        (omega (arith, ints, i.below));
+    da = omega (arith, ints, i.first, turned_back o n p);
+  }
   band_quad East ho hn ho' hn' lo ln i = record {
-    ab = left_in (reach East outer) o o' p (goes East outer o o' ho (ho', lo)) i.above; bc = i.last;
+    ab = left_in (reach East outer) o o' p (goes East outer o o' ho (ho', lo)) i.above;
+    bc = i.last;
     cd = left_in (reach West inner) n' n p (goes West inner n' n hn' (hn, ln)) (omega (arith, ints, i.below));
-    da = omega (arith, ints, i.first, turned_back o n p) }
+    da = omega (arith, ints, i.first, turned_back o n p);
+  }
   band_quad North ho hn ho' hn' lo ln i = record {
     ab = omega (arith, ints, i.first, turned_back o n p);
-    bc = left_in (reach South inner) n n' p (goes South inner n n' hn (hn', ln)) (omega (arith, ints, i.below)); cd = i.last;
-    da = left_in (reach North outer) o' o p (goes North outer o' o ho' (ho, lo)) i.above }
+    bc = left_in (reach South inner) n n' p (goes South inner n n' hn (hn', ln))
+        (omega (arith, ints, i.below));
+    cd = i.last;
+    da = left_in (reach North outer) o' o p (goes North outer o' o ho' (ho, lo)) i.above;
+  }
   band_quad West ho hn ho' hn' lo ln i = record {
     ab = omega (arith, ints, i.first, turned_back o n p);
-    bc = left_in (reach East inner) n n' p (goes East inner n n' hn (hn', ln)) (omega (arith, ints, i.below)); cd = i.last;
-    da = left_in (reach West outer) o' o p (goes West outer o' o ho' (ho, lo)) i.above }
+    bc = left_in (reach East inner) n n' p (goes East inner n n' hn (hn', ln)) (omega (arith, ints, i.below));
+    cd = i.last;
+    da = left_in (reach West outer) o' o p (goes West outer o' o ho' (ho, lo)) i.above;
+  }
 
-  pub quad_band : (side : Side) → across side o ≡ outer → across side n ≡ inner → across side o' ≡ outer → across side n' ≡ inner
-      → along side o <ℤ along side o' → along side n <ℤ along side n' → QuadOf side o n o' n' p → InBand side outer inner o n o' n' p
+  pub quad_band : (side : Side) → across side o ≡ outer → across side n ≡ inner → across side o' ≡ outer
+      → across side n' ≡ inner
+      → along side o <ℤ along side o' → along side n <ℤ along side n' → QuadOf side o n o' n' p
+      → InBand side outer inner o n o' n' p
   quad_band South ho hn ho' hn' lo ln i =
       let k = left_out (reach North inner) n' n p (goes North inner n' n hn' (hn, ln)) i.cd in
       record {
-        above = left_out (reach South outer) o o' p (goes South outer o o' ho (ho', lo)) i.ab; below = omega (arith, ints, k);
-        first = omega (arith, ints, i.da, turned_back o n p); last = i.bc }
+        above = left_out (reach South outer) o o' p (goes South outer o o' ho (ho', lo)) i.ab;
+        below = omega (arith, ints, k);
+        first = omega (arith, ints, i.da, turned_back o n p);
+        last = i.bc;
+      }
   quad_band East ho hn ho' hn' lo ln i =
       let k = left_out (reach West inner) n' n p (goes West inner n' n hn' (hn, ln)) i.cd in
       record {
-        above = left_out (reach East outer) o o' p (goes East outer o o' ho (ho', lo)) i.ab; below = omega (arith, ints, k);
-        first = omega (arith, ints, i.da, turned_back o n p); last = i.bc }
+        above = left_out (reach East outer) o o' p (goes East outer o o' ho (ho', lo)) i.ab;
+        below = omega (arith, ints, k);
+        first = omega (arith, ints, i.da, turned_back o n p);
+        last = i.bc;
+      }
   quad_band North ho hn ho' hn' lo ln i =
       let k = left_out (reach South inner) n n' p (goes South inner n n' hn (hn', ln)) i.bc in
       record {
-        above = left_out (reach North outer) o' o p (goes North outer o' o ho' (ho, lo)) i.da; below = omega (arith, ints, k);
-        first = omega (arith, ints, i.ab, turned_back o n p); last = i.cd }
+        above = left_out (reach North outer) o' o p (goes North outer o' o ho' (ho, lo)) i.da;
+        below = omega (arith, ints, k);
+        first = omega (arith, ints, i.ab, turned_back o n p);
+        last = i.cd;
+      }
   quad_band West ho hn ho' hn' lo ln i =
       let k = left_out (reach East inner) n n' p (goes East inner n n' hn (hn', ln)) i.bc in
       record {
-        above = left_out (reach West outer) o' o p (goes West outer o' o ho' (ho, lo)) i.da; below = omega (arith, ints, k);
-        first = omega (arith, ints, i.ab, turned_back o n p); last = i.cd }
+        above = left_out (reach West outer) o' o p (goes West outer o' o ho' (ho, lo)) i.da;
+        below = omega (arith, ints, k);
+        first = omega (arith, ints, i.ab, turned_back o n p);
+        last = i.cd;
+      }
 
 -- ---- the same at the scale s
 module _ (s : ℤ) (h : pos 1 ≤ℤ s) where
-  outside_scaled : (side : Side) (outer inner : ℤ) → IsOutside side outer inner → IsOutside side (s *ℤ outer) (s *ℤ inner)
+  outside_scaled : (side : Side) (outer inner : ℤ) → IsOutside side outer inner
+      → IsOutside side (s *ℤ outer) (s *ℤ inner)
   outside_scaled South outer inner l = grow_lt s outer inner h l
   outside_scaled East outer inner l = grow_lt s inner outer h l
   outside_scaled North outer inner l = grow_lt s inner outer h l
@@ -87,43 +117,63 @@ module _ (s : ℤ) (h : pos 1 ≤ℤ s) where
   abbrev times : Point → Point
   times p = point (s *ℤ p.u) (s *ℤ p.v)
 
-  across_scaled : (side : Side) (line : ℤ) (p : Point) → across side p ≡ line → across side (times p) ≡ s *ℤ line
+  across_scaled : (side : Side) (line : ℤ) (p : Point) → across side p ≡ line
+      → across side (times p) ≡ s *ℤ line
   across_scaled South line p e = ap (λ i. s *ℤ i) e
   across_scaled East line p e = ap (λ i. s *ℤ i) e
   across_scaled North line p e = ap (λ i. s *ℤ i) e
   across_scaled West line p e = ap (λ i. s *ℤ i) e
 
-  along_scaled : (side : Side) (p q : Point) → along side p <ℤ along side q → along side (times p) <ℤ along side (times q)
+  along_scaled : (side : Side) (p q : Point) → along side p <ℤ along side q
+      → along side (times p) <ℤ along side (times q)
   along_scaled South p q l = grow_lt s p.u q.u h l
   along_scaled East p q l = grow_lt s p.v q.v h l
   along_scaled North p q l = grow_lt s p.u q.u h l
   along_scaled West p q l = grow_lt s p.v q.v h l
 
-  pub ascend_scaled : {A : Type 0} (at : A → Point) (z : A → ℤ) (side : Side) (outer inner : ℤ) (o n : A) (steps : List (Step A))
+  pub ascend_scaled : {A : Type 0} (at : A → Point) (z : A
+      → ℤ) (side : Side) (outer inner : ℤ) (o n : A) (steps : List (Step A))
       → Ascend at side outer inner o n steps → Ascend (scaled at z s) side (s *ℤ outer) (s *ℤ inner) o n steps
   ascend_scaled at z side outer inner o n [] a = tt
-  ascend_scaled at z side outer inner o n (Outer x ∷ steps) a =
-      (across_scaled side outer (at x) a.0, along_scaled side (at o) (at x) a.1, ascend_scaled at z side outer inner x n steps a.2)
-  ascend_scaled at z side outer inner o n (Inner x ∷ steps) a =
-      (across_scaled side inner (at x) a.0, along_scaled side (at n) (at x) a.1, ascend_scaled at z side outer inner o x steps a.2)
+  ascend_scaled at z side outer inner o n (Outer x ∷ steps) a = (
+    across_scaled side outer (at x) a.0,
+    along_scaled side (at o) (at x) a.1,
+    ascend_scaled at z side outer inner x n steps a.2,
+  )
+  ascend_scaled at z side outer inner o n (Inner x ∷ steps) a = (
+    across_scaled side inner (at x) a.0,
+    along_scaled side (at n) (at x) a.1,
+    ascend_scaled at z side outer inner o x steps a.2,
+  )
 
-  quad_out : (a b c d : Corner) (p : Point) → QuadAt (place_at s a) (place_at s b) (place_at s c) (place_at s d) p → InQuad a b c d s p.u p.v
+  quad_out : (a b c d : Corner) (p : Point)
+      → QuadAt (place_at s a) (place_at s b) (place_at s c) (place_at s d) p → InQuad a b c d s p.u p.v
   quad_out a b c d p i = record {
-    ab = nonneg_out s (side_of a b s p.u p.v) (turn (place_at s a) (place_at s b) p) h (side_scaled a b s p.u p.v) i.ab;
-    bc = nonneg_out s (side_of b c s p.u p.v) (turn (place_at s b) (place_at s c) p) h (side_scaled b c s p.u p.v) i.bc;
-    cd = nonneg_out s (side_of c d s p.u p.v) (turn (place_at s c) (place_at s d) p) h (side_scaled c d s p.u p.v) i.cd;
-    da = nonneg_out s (side_of d a s p.u p.v) (turn (place_at s d) (place_at s a) p) h (side_scaled d a s p.u p.v) i.da;
+    ab = nonneg_out s (side_of a b s p.u p.v) (turn (place_at s a) (place_at s b) p) h
+        (side_scaled a b s p.u p.v) i.ab;
+    bc = nonneg_out s (side_of b c s p.u p.v) (turn (place_at s b) (place_at s c) p) h
+        (side_scaled b c s p.u p.v) i.bc;
+    cd = nonneg_out s (side_of c d s p.u p.v) (turn (place_at s c) (place_at s d) p) h
+        (side_scaled c d s p.u p.v) i.cd;
+    da = nonneg_out s (side_of d a s p.u p.v) (turn (place_at s d) (place_at s a) p) h
+        (side_scaled d a s p.u p.v) i.da;
   }
 
-  quad_in : (a b c d : Corner) (p : Point) → InQuad a b c d s p.u p.v → QuadAt (place_at s a) (place_at s b) (place_at s c) (place_at s d) p
+  quad_in : (a b c d : Corner) (p : Point) → InQuad a b c d s p.u p.v
+      → QuadAt (place_at s a) (place_at s b) (place_at s c) (place_at s d) p
   quad_in a b c d p i = record {
-    ab = nonneg_in s (side_of a b s p.u p.v) (turn (place_at s a) (place_at s b) p) h (side_scaled a b s p.u p.v) i.ab;
-    bc = nonneg_in s (side_of b c s p.u p.v) (turn (place_at s b) (place_at s c) p) h (side_scaled b c s p.u p.v) i.bc;
-    cd = nonneg_in s (side_of c d s p.u p.v) (turn (place_at s c) (place_at s d) p) h (side_scaled c d s p.u p.v) i.cd;
-    da = nonneg_in s (side_of d a s p.u p.v) (turn (place_at s d) (place_at s a) p) h (side_scaled d a s p.u p.v) i.da;
+    ab = nonneg_in s (side_of a b s p.u p.v) (turn (place_at s a) (place_at s b) p) h
+        (side_scaled a b s p.u p.v) i.ab;
+    bc = nonneg_in s (side_of b c s p.u p.v) (turn (place_at s b) (place_at s c) p) h
+        (side_scaled b c s p.u p.v) i.bc;
+    cd = nonneg_in s (side_of c d s p.u p.v) (turn (place_at s c) (place_at s d) p) h
+        (side_scaled c d s p.u p.v) i.cd;
+    da = nonneg_in s (side_of d a s p.u p.v) (turn (place_at s d) (place_at s a) p) h
+        (side_scaled d a s p.u p.v) i.da;
   }
 
-  strip_out : (side : Side) (o n o' n' : Corner) (p : Point) → QuadOf side (place_at s o) (place_at s n) (place_at s o') (place_at s n') p
+  strip_out : (side : Side) (o n o' n' : Corner) (p : Point)
+      → QuadOf side (place_at s o) (place_at s n) (place_at s o') (place_at s n') p
       → InStrip side o n o' n' s p.u p.v
   strip_out South o n o' n' p i = quad_out o o' n' n p i
   strip_out East o n o' n' p i = quad_out o o' n' n p i
@@ -148,7 +198,8 @@ not_further side p l = omega (arith, ints, l)
 
 -- what lies between the segments at the ends, at the scale s
 abbrev Inner_at : Side → ℤ → ℤ → Corner → Corner → Corner → Corner → ℤ → Point → Type 0
-Inner_at side outer inner o n o' n' s = InsideBand side (s *ℤ outer) (s *ℤ inner) (place_at s o) (place_at s n) (place_at s o') (place_at s n')
+Inner_at side outer inner o n o' n' s =
+    InsideBand side (s *ℤ outer) (s *ℤ inner) (place_at s o) (place_at s n) (place_at s o') (place_at s n')
 
 pub strip_law : StripLaw
 strip_law side outer inner o n [] l ho hn a lo ln = absurd (not_further side (place o) lo)
@@ -156,21 +207,28 @@ strip_law side outer inner o n (t ∷ steps) l ho hn a lo ln =
     let o' = outer_end o (t ∷ steps) in let n' = inner_end n (t ∷ steps) in
     let ho' = outer_end_on place side outer inner o n (t ∷ steps) ho a in
     let hn' = inner_end_on place side outer inner o n (t ∷ steps) hn a in
-    tiles_at_each_scale place height (λ s p. InStrip side o n o' n' s p.u p.v) (λ s p. Inner_at side outer inner o n o' n' s p)
-      (strip side o n (t ∷ steps))
-      (λ s h.
-        let at = scaled place height s in
-        let so = across_scaled s h side outer (place o) ho in let sn = across_scaled s h side inner (place n) hn in
-        let so' = across_scaled s h side outer (place o') ho' in let sn' = across_scaled s h side inner (place n') hn' in
-        let slo = along_scaled s h side (place o) (place o') lo in let sln = along_scaled s h side (place n) (place n') ln in
-        tiling_same at
-          (InBand side (s *ℤ outer) (s *ℤ inner) (place_at s o) (place_at s n) (place_at s o') (place_at s n'))
-          (λ p. Inner_at side outer inner o n o' n' s p)
-          (λ p. InStrip side o n o' n' s p.u p.v) (λ p. Inner_at side outer inner o n o' n' s p) (strip side o n (t ∷ steps))
-          (λ p i. strip_out s h side o n o' n' p
-            (band_quad (s *ℤ outer) (s *ℤ inner) (place_at s o) (place_at s n) (place_at s o') (place_at s n') p side so sn so' sn' slo sln i))
-          (λ p i. quad_band (s *ℤ outer) (s *ℤ inner) (place_at s o) (place_at s n) (place_at s o') (place_at s n') p side so sn so' sn' slo sln
-            (strip_in s h side o n o' n' p i))
-          (λ p i. i)
-          (strip_tiles at side (s *ℤ outer) (s *ℤ inner) o n t steps (outside_scaled s h side outer inner l) so sn
-            (ascend_scaled s h place height side outer inner o n (t ∷ steps) a)))
+    tiles_at_each_scale place height (λ s p. InStrip side o n o' n' s p.u p.v)
+    (λ s p. Inner_at side outer inner o n o' n' s p)
+    (strip side o n (t ∷ steps))
+    (λ s h.
+    let at = scaled place height s in
+    let so = across_scaled s h side outer (place o) ho in
+    let sn = across_scaled s h side inner (place n) hn in
+    let so' = across_scaled s h side outer (place o') ho' in
+    let sn' = across_scaled s h side inner (place n') hn' in
+    let slo = along_scaled s h side (place o) (place o') lo in
+    let sln = along_scaled s h side (place n) (place n') ln in
+    tiling_same at
+    (InBand side (s *ℤ outer) (s *ℤ inner) (place_at s o) (place_at s n) (place_at s o') (place_at s n'))
+    (λ p. Inner_at side outer inner o n o' n' s p)
+    (λ p. InStrip side o n o' n' s p.u p.v) (λ p. Inner_at side outer inner o n o' n' s p)
+    (strip side o n (t ∷ steps))
+    (λ p i. strip_out s h side o n o' n' p
+    (band_quad (s *ℤ outer) (s *ℤ inner) (place_at s o) (place_at s n) (place_at s o')
+    (place_at s n') p side so sn so' sn' slo sln i))
+    (λ p i. quad_band (s *ℤ outer) (s *ℤ inner) (place_at s o) (place_at s n) (place_at s o')
+    (place_at s n') p side so sn so' sn' slo sln
+    (strip_in s h side o n o' n' p i))
+    (λ p i. i)
+    (strip_tiles at side (s *ℤ outer) (s *ℤ inner) o n t steps (outside_scaled s h side outer inner l) so sn
+    (ascend_scaled s h place height side outer inner o n (t ∷ steps) a)))

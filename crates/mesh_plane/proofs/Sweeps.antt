@@ -1,8 +1,8 @@
 -- Sweeps: triangles between two parallel lines, from segment to segment.
-use Rattle.std.proofs.Common.{◌≡◌, refl, ap, arith, sym, ◌∙◌, List, [], ◌∷◌, ◌++◌, map, inl, inr}
+use Rattle.std.proofs.Common.{◌≡◌, refl, ap, arith, sym, ◌∙◌, List, [], ◌∷◌, ◌++◌, inl, inr}
 use Rattle.std.specs.Prelude.{ℤ, pos, ◌+ℤ◌, ◌-ℤ◌, ◌*ℤ◌, ◌≤ℤ◌, ◌<ℤ◌}
 use Rattle.std.proofs.lemmas.Int.{ints}
-use Rattle.polynomial.proofs.Expressions.{Expr, var, num, add, sub, mul}
+use Rattle.polynomial.proofs.Expressions.{var, num, sub, mul}
 use Rattle.polynomial.proofs.NormalForm.{by_ring}
 use Rattle.polynomial.proofs.Signs.{times_nonneg, times_pos, factor_nonneg, factor_pos, weaken, by_le_z}
 use Rattle.mesh_plane.specs.Plane.{Point}
@@ -32,15 +32,18 @@ pub record StrictlyBetween (h : Point → ℤ) (m : ℤ) (o n o' n' : Point) (p 
 -- ---- one step, in numbers: d and e are the turns of the segments before and after it
 pub difference : (w m k : ℤ) → w *ℤ (m -ℤ k) ≡ w *ℤ m -ℤ w *ℤ k
 difference w m k =
-    by_ring (mul (var 0) (sub (var 1) (var 2))) (sub (mul (var 0) (var 1)) (mul (var 0) (var 2))) (w ∷ m ∷ k ∷ []) refl
+    by_ring (mul (var 0) (sub (var 1) (var 2))) (sub (mul (var 0) (var 1)) (mul (var 0) (var 2)))
+    (w ∷ m ∷ k ∷ []) refl
 
-step_in : (d e w k m : ℤ) → pos 0 <ℤ w → (w *ℤ k +ℤ e) -ℤ d ≡ w *ℤ m → pos 0 ≤ℤ (w *ℤ k) → pos 0 ≤ℤ e → d ≤ℤ pos 0
+step_in : (d e w k m : ℤ) → pos 0 <ℤ w → (w *ℤ k +ℤ e) -ℤ d ≡ w *ℤ m → pos 0 ≤ℤ (w *ℤ k) → pos 0 ≤ℤ e
+    → d ≤ℤ pos 0
     → (pos 0 ≤ℤ k) × (k ≤ℤ m)
 step_in d e w k m far eq h i j =
     let a : pos 0 ≤ℤ (m -ℤ k) = factor_nonneg w (m -ℤ k) far (omega (arith, ints, difference w m k)) in
     (factor_nonneg w k far h, omega (arith, ints))
 
-step_inside : (d e w k m : ℤ) → pos 0 <ℤ w → (w *ℤ k +ℤ e) -ℤ d ≡ w *ℤ m → pos 0 <ℤ (w *ℤ k) → pos 0 <ℤ e → d <ℤ pos 0
+step_inside : (d e w k m : ℤ) → pos 0 <ℤ w → (w *ℤ k +ℤ e) -ℤ d ≡ w *ℤ m → pos 0 <ℤ (w *ℤ k) → pos 0 <ℤ e
+    → d <ℤ pos 0
     → (pos 0 <ℤ k) × (k <ℤ m)
 step_inside d e w k m far eq h i j =
     let a : pos 0 <ℤ (m -ℤ k) = factor_pos w (m -ℤ k) far (omega (arith, ints, difference w m k)) in
@@ -57,7 +60,8 @@ outer_sum h m o n x g hn p =
     let a : turn o x n ≡ g.w *ℤ m = g.turns n ∙ ap (λ z. g.w *ℤ z) hn in
     omega (arith, ints, a, g.turns p, three_sides o x n p, turned_back o n p)
 
-inner_area : (h : Point → ℤ) (m : ℤ) (o n x : Point) (g : Goes (λ p. m -ℤ h p) x n) → h o ≡ pos 0 → turn o x n ≡ g.w *ℤ m
+inner_area : (h : Point → ℤ) (m : ℤ) (o n x : Point) (g : Goes (λ p. m -ℤ h p) x n) → h o ≡ pos 0
+    → turn o x n ≡ g.w *ℤ m
 inner_area h m o n x g ho =
     sym (turned_on o x n) ∙ g.turns o ∙ ap (λ z. g.w *ℤ (m -ℤ z)) ho
     ∙ by_ring (mul (var 0) (sub (var 1) (num 0))) (mul (var 0) (var 1)) (g.w ∷ m ∷ []) refl
@@ -89,47 +93,78 @@ module _ {A : Type 0} (at : A → Point) where
 
   outer_one : (h : Point → ℤ) (m : ℤ) (o n x : A) → pos 0 <ℤ m → h (at n) ≡ m → Goes h (at o) (at x)
       → Tiling at (Band h m o n x n) (OpenBand h m o n x n) (record { a = o; b = x; c = n } ∷ [])
-  outer_one h m o n x hm hn g = tiling_one at (Band h m o n x n) (OpenBand h m o n x n) (record { a = o; b = x; c = n })
+  outer_one h m o n x hm hn g =
+      tiling_one at (Band h m o n x n) (OpenBand h m o n x n) (record { a = o; b = x; c = n })
       (let a : turn (at o) (at x) (at n) ≡ g.w *ℤ m = g.turns (at n) ∙ ap (λ z. g.w *ℤ z) hn in
-        omega (arith, ints, a, times_pos g.w m g.far hm))
+      omega (arith, ints, a, times_pos g.w m g.far hm))
       (λ p i.
-        let k : (pos 0 ≤ℤ h p) × (h p ≤ℤ m) = step_in (turn (at o) (at n) p) (turn (at x) (at n) p) g.w (h p) m g.far
-              (outer_sum h m (at o) (at n) (at x) g hn p) (omega (arith, ints, i.ab, g.turns p)) i.bc
-              (omega (arith, ints, i.ca, turned_back (at o) (at n) p)) in
-        record { above = k.0; below = k.1; right = omega (arith, ints, i.ca, turned_back (at o) (at n) p); left = i.bc })
+      let k : (pos 0 ≤ℤ h p) × (h p ≤ℤ m) =
+      step_in (turn (at o) (at n) p) (turn (at x) (at n) p) g.w (h p) m g.far
+      (outer_sum h m (at o) (at n) (at x) g hn p) (omega (arith, ints, i.ab, g.turns p)) i.bc
+      (omega (arith, ints, i.ca, turned_back (at o) (at n) p)) in
+      record {
+        above = k.0;
+        below = k.1;
+        right = omega (arith, ints, i.ca, turned_back (at o) (at n) p);
+        left = i.bc;
+      })
       (λ p i. record {
         ab = omega (arith, ints, g.turns p, times_nonneg g.w (h p) (weaken g.far) i.above);
-        bc = i.left; ca = omega (arith, ints, i.right, turned_back (at o) (at n) p) })
+        bc = i.left;
+        ca = omega (arith, ints, i.right, turned_back (at o) (at n) p);
+      })
       (λ p i.
-        let k : (pos 0 <ℤ h p) × (h p <ℤ m) = step_inside (turn (at o) (at n) p) (turn (at x) (at n) p) g.w (h p) m g.far
-              (outer_sum h m (at o) (at n) (at x) g hn p) (omega (arith, ints, i.ab, g.turns p)) i.bc
-              (omega (arith, ints, i.ca, turned_back (at o) (at n) p)) in
-        record { above = k.0; below = k.1; right = omega (arith, ints, i.ca, turned_back (at o) (at n) p); left = i.bc })
+      let k : (pos 0 <ℤ h p) × (h p <ℤ m) =
+      step_inside (turn (at o) (at n) p) (turn (at x) (at n) p) g.w (h p) m g.far
+      (outer_sum h m (at o) (at n) (at x) g hn p) (omega (arith, ints, i.ab, g.turns p)) i.bc
+      (omega (arith, ints, i.ca, turned_back (at o) (at n) p)) in
+      record {
+        above = k.0;
+        below = k.1;
+        right = omega (arith, ints, i.ca, turned_back (at o) (at n) p);
+        left = i.bc;
+      })
 
   inner_one : (h : Point → ℤ) (m : ℤ) (o n x : A) → pos 0 <ℤ m → h (at o) ≡ pos 0
       → Goes (λ p. m -ℤ h p) (at x) (at n)
       → Tiling at (Band h m o n o x) (OpenBand h m o n o x) (record { a = o; b = x; c = n } ∷ [])
-  inner_one h m o n x hm ho g = tiling_one at (Band h m o n o x) (OpenBand h m o n o x) (record { a = o; b = x; c = n })
+  inner_one h m o n x hm ho g =
+      tiling_one at (Band h m o n o x) (OpenBand h m o n o x) (record { a = o; b = x; c = n })
       (omega (arith, ints, inner_area h m (at o) (at n) (at x) g ho, times_pos g.w m g.far hm))
       (λ p i.
-        let k : (pos 0 ≤ℤ (m -ℤ h p)) × ((m -ℤ h p) ≤ℤ m) = step_in (turn (at o) (at n) p) (turn (at o) (at x) p) g.w
-              (m -ℤ h p) m g.far (inner_sum h m (at o) (at n) (at x) g ho p) (omega (arith, ints, i.bc, g.turns p)) i.ab
-              (omega (arith, ints, i.ca, turned_back (at o) (at n) p)) in
-        record {
-          above = omega (arith, ints, k.1); below = omega (arith, ints, k.0);
-          right = omega (arith, ints, i.ca, turned_back (at o) (at n) p); left = i.ab })
+      let k : (pos 0 ≤ℤ (m -ℤ h p)) × ((m -ℤ h p) ≤ℤ m) =
+      step_in (turn (at o) (at n) p) (turn (at o) (at x) p) g.w
+      (m -ℤ h p) m g.far (inner_sum h m (at o) (at n) (at x) g ho p)
+      (omega (arith, ints, i.bc, g.turns p)) i.ab
+      (omega (arith, ints, i.ca, turned_back (at o) (at n) p)) in
+      record {
+        above = omega (arith, ints, k.1);
+        below = omega (arith, ints, k.0);
+        right = omega (arith, ints, i.ca, turned_back (at o) (at n) p);
+        left = i.ab;
+      })
       (λ p i. record {
         ab = i.left;
-        bc = omega (arith, ints, g.turns p,
-          times_nonneg g.w (m -ℤ h p) (weaken g.far) (omega (arith, ints, i.below)));
-        ca = omega (arith, ints, i.right, turned_back (at o) (at n) p) })
+        bc = omega (
+          arith,
+          ints,
+          g.turns p,
+          times_nonneg g.w (m -ℤ h p) (weaken g.far) (omega (arith, ints, i.below)),
+        );
+        ca = omega (arith, ints, i.right, turned_back (at o) (at n) p);
+      })
       (λ p i.
-        let k : (pos 0 <ℤ (m -ℤ h p)) × ((m -ℤ h p) <ℤ m) = step_inside (turn (at o) (at n) p) (turn (at o) (at x) p) g.w
-              (m -ℤ h p) m g.far (inner_sum h m (at o) (at n) (at x) g ho p) (omega (arith, ints, i.bc, g.turns p)) i.ab
-              (omega (arith, ints, i.ca, turned_back (at o) (at n) p)) in
-        record {
-          above = omega (arith, ints, k.1); below = omega (arith, ints, k.0);
-          right = omega (arith, ints, i.ca, turned_back (at o) (at n) p); left = i.ab })
+      let k : (pos 0 <ℤ (m -ℤ h p)) × ((m -ℤ h p) <ℤ m) =
+      step_inside (turn (at o) (at n) p) (turn (at o) (at x) p) g.w
+      (m -ℤ h p) m g.far (inner_sum h m (at o) (at n) (at x) g ho p)
+      (omega (arith, ints, i.bc, g.turns p)) i.ab
+      (omega (arith, ints, i.ca, turned_back (at o) (at n) p)) in
+      record {
+        above = omega (arith, ints, k.1);
+        below = omega (arith, ints, k.0);
+        right = omega (arith, ints, i.ca, turned_back (at o) (at n) p);
+        left = i.ab;
+      })
 
   -- between the lines, what is left of one segment is left of every later one
   pub grows : (h : Point → ℤ) (m : ℤ) (o n : A) (steps : List (Step A)) → h (at o) ≡ pos 0 → h (at n) ≡ m
@@ -137,52 +172,69 @@ module _ {A : Type 0} (at : A → Point) where
       → turn (at o) (at n) p ≤ℤ turn (at (outer_end o steps)) (at (inner_end n steps)) p
   grows h m o n [] ho hn s p a b = omega (arith, ints)
   grows h m o n (Outer x ∷ steps) ho hn s p a b =
-      let k : turn (at o) (at n) p ≤ℤ turn (at x) (at n) p = step_grows (turn (at o) (at n) p) (turn (at x) (at n) p)
-            s.0.w (h p) m s.0.far (outer_sum h m (at o) (at n) (at x) s.0 hn p) b in
+      let k : turn (at o) (at n) p ≤ℤ turn (at x) (at n) p =
+      step_grows (turn (at o) (at n) p) (turn (at x) (at n) p)
+      s.0.w (h p) m s.0.far (outer_sum h m (at o) (at n) (at x) s.0 hn p) b in
       omega (arith, ints, k, grows h m x n steps s.1 hn s.2 p a b)
   grows h m o n (Inner x ∷ steps) ho hn s p a b =
-      let k : turn (at o) (at n) p ≤ℤ turn (at o) (at x) p = step_grows (turn (at o) (at n) p) (turn (at o) (at x) p)
-            s.0.w (m -ℤ h p) m s.0.far (inner_sum h m (at o) (at n) (at x) s.0 ho p) (omega (arith, ints)) in
+      let k : turn (at o) (at n) p ≤ℤ turn (at o) (at x) p =
+      step_grows (turn (at o) (at n) p) (turn (at o) (at x) p)
+      s.0.w (m -ℤ h p) m s.0.far (inner_sum h m (at o) (at n) (at x) s.0 ho p) (omega (arith, ints)) in
       omega (arith, ints, k, grows h m o x steps ho s.1 s.2 p a b)
 
   -- a first piece, up to the segment from a to b, and the rest
   two_pieces : (h : Point → ℤ) (m : ℤ) (o n a b o' n' : A) (ts us : List (Triple A))
-      → Tiling at (Band h m o n a b) (OpenBand h m o n a b) ts → Tiling at (Band h m a b o' n') (OpenBand h m a b o' n') us
+      → Tiling at (Band h m o n a b) (OpenBand h m o n a b) ts
+      → Tiling at (Band h m a b o' n') (OpenBand h m a b o' n') us
       → ((p : Point) → pos 0 ≤ℤ h p → h p ≤ℤ m → turn (at o) (at n) p ≤ℤ turn (at a) (at b) p)
       → ((p : Point) → pos 0 ≤ℤ h p → h p ≤ℤ m → turn (at a) (at b) p ≤ℤ turn (at o') (at n') p)
       → Tiling at (Band h m o n o' n') (OpenBand h m o n o' n') (ts ++ us)
   two_pieces h m o n a b o' n' ts us i k first second =
       tiling_append at (Band h m o n o' n') (OpenBand h m o n o' n') (Band h m o n a b) (OpenBand h m o n a b)
-        (Band h m a b o' n') (OpenBand h m a b o' n') ts us i k
-        (λ p r. by_le_z (turn (at a) (at b) p) (pos 0)
-          (λ w. inr (record { above = r.above; below = r.below; right = w; left = r.left }))
-          (λ w. inl (record { above = r.above; below = r.below; right = r.right; left = w })))
-        (λ p r. record {
-          above = r.above; below = r.below; right = r.right;
-          left = omega (arith, ints, r.left, second p r.above r.below) })
-        (λ p r. record {
-          above = r.above; below = r.below; left = r.left;
-          right = omega (arith, ints, r.right, first p r.above r.below) })
-        (λ p r. record {
-          above = r.above; below = r.below; right = r.right;
-          left = omega (arith, ints, r.left, second p (weaken r.above) (weaken r.below)) })
-        (λ p r. record {
-          above = r.above; below = r.below; left = r.left;
-          right = omega (arith, ints, r.right, first p (weaken r.above) (weaken r.below)) })
-        (λ p r q. omega (arith, ints, r.left, q.right))
+      (Band h m a b o' n') (OpenBand h m a b o' n') ts us i k
+      (λ p r. by_le_z (turn (at a) (at b) p) (pos 0)
+      (λ w. inr (record { above = r.above; below = r.below; right = w; left = r.left }))
+      (λ w. inl (record { above = r.above; below = r.below; right = r.right; left = w })))
+      (λ p r. record {
+        above = r.above;
+        below = r.below;
+        right = r.right;
+        left = omega (arith, ints, r.left, second p r.above r.below);
+      })
+      (λ p r. record {
+        above = r.above;
+        below = r.below;
+        left = r.left;
+        right = omega (arith, ints, r.right, first p r.above r.below);
+      })
+      (λ p r. record {
+        above = r.above;
+        below = r.below;
+        right = r.right;
+        left = omega (arith, ints, r.left, second p (weaken r.above) (weaken r.below));
+      })
+      (λ p r. record {
+        above = r.above;
+        below = r.below;
+        left = r.left;
+        right = omega (arith, ints, r.right, first p (weaken r.above) (weaken r.below));
+      })
+      (λ p r q. omega (arith, ints, r.left, q.right))
 
   -- a sweep tiles what lies between its first segment and its last
   pub sweep_tiles : (h : Point → ℤ) (m : ℤ) (o n : A) (s : Step A) (steps : List (Step A)) → pos 0 <ℤ m
       → h (at o) ≡ pos 0 → h (at n) ≡ m → Moves h m o n (s ∷ steps)
       → Tiling at (Band h m o n (outer_end o (s ∷ steps)) (inner_end n (s ∷ steps)))
-        (OpenBand h m o n (outer_end o (s ∷ steps)) (inner_end n (s ∷ steps))) (sweep o n (s ∷ steps))
+      (OpenBand h m o n (outer_end o (s ∷ steps)) (inner_end n (s ∷ steps))) (sweep o n (s ∷ steps))
   sweep_tiles h m o n (Outer x) [] hm ho hn s = outer_one h m o n x hm hn s.0
   sweep_tiles h m o n (Inner x) [] hm ho hn s = inner_one h m o n x hm ho s.0
   sweep_tiles h m o n (Outer x) (t ∷ steps) hm ho hn s =
-      two_pieces h m o n x n (outer_end x (t ∷ steps)) (inner_end n (t ∷ steps)) (record { a = o; b = x; c = n } ∷ [])
-        (sweep x n (t ∷ steps)) (outer_one h m o n x hm hn s.0) (sweep_tiles h m x n t steps hm s.1 hn s.2)
-        (grows h m o n (Outer x ∷ []) ho hn (s.0, s.1, tt)) (grows h m x n (t ∷ steps) s.1 hn s.2)
+      two_pieces h m o n x n (outer_end x (t ∷ steps)) (inner_end n (t ∷ steps))
+      (record { a = o; b = x; c = n } ∷ [])
+      (sweep x n (t ∷ steps)) (outer_one h m o n x hm hn s.0) (sweep_tiles h m x n t steps hm s.1 hn s.2)
+      (grows h m o n (Outer x ∷ []) ho hn (s.0, s.1, tt)) (grows h m x n (t ∷ steps) s.1 hn s.2)
   sweep_tiles h m o n (Inner x) (t ∷ steps) hm ho hn s =
-      two_pieces h m o n o x (outer_end o (t ∷ steps)) (inner_end x (t ∷ steps)) (record { a = o; b = x; c = n } ∷ [])
-        (sweep o x (t ∷ steps)) (inner_one h m o n x hm ho s.0) (sweep_tiles h m o x t steps hm ho s.1 s.2)
-        (grows h m o n (Inner x ∷ []) ho hn (s.0, s.1, tt)) (grows h m o x (t ∷ steps) ho s.1 s.2)
+      two_pieces h m o n o x (outer_end o (t ∷ steps)) (inner_end x (t ∷ steps))
+      (record { a = o; b = x; c = n } ∷ [])
+      (sweep o x (t ∷ steps)) (inner_one h m o n x hm ho s.0) (sweep_tiles h m o x t steps hm ho s.1 s.2)
+      (grows h m o n (Inner x ∷ []) ho hn (s.0, s.1, tt)) (grows h m o x (t ∷ steps) ho s.1 s.2)

@@ -1,5 +1,5 @@
 -- Triangles that tile a region of the plane, over corners of any kind that are placed by a function.
-use Rattle.std.proofs.Common.{◌≡◌, List, [], ◌∷◌, ◌++◌, map, inl, inr, ⊎_elim, arith}
+use Rattle.std.proofs.Common.{List, [], ◌∷◌, ◌++◌, inl, inr, ⊎_elim}
 use Rattle.std.specs.Prelude.{ℤ, pos, ◌≤ℤ◌, ◌<ℤ◌, ◌⊎◌}
 use Rattle.std.specs.List.{AllByRecursion}
 use Rattle.mesh_plane.specs.Plane.{Point}
@@ -50,7 +50,8 @@ module _ {A : Type 0} (at : A → Point) where
   NoneTwice p [] = Unit {0}
   NoneTwice p (t ∷ ts) = (Inside t p → ¬ HeldInside p ts) × NoneTwice p ts
 
-  -- the triangles hold the points of the region, no others, and none strictly twice; what they hold strictly is
+  -- the triangles hold the points of the region, no others, and none strictly twice; what they hold strictly
+  -- is
   -- in the region's inside
   pub record Tiling (region inside : Point → Type 0) (ts : List (Triple A)) : Type 0 where
     pub ccw : AllByRecursion IsCcw ts
@@ -83,37 +84,44 @@ module _ {A : Type 0} (at : A → Point) where
   pub none_twice : (p : Point) (ts us : List (Triple A)) → NoneTwice p ts → NoneTwice p us
       → (HeldInside p ts → HeldInside p us → ⊥) → NoneTwice p (ts ++ us)
   none_twice p [] us h k apart = k
-  none_twice p (t ∷ ts) us h k apart =
-      (λ s w. ⊎_elim (λ x. h.0 s x) (λ y. apart (inl s) y) (inside_split p ts us w),
-        none_twice p ts us h.1 k (λ x y. apart (inr x) y))
+  none_twice p (t ∷ ts) us h k apart = (
+    λ s w. ⊎_elim (λ x. h.0 s x) (λ y. apart (inl s) y) (inside_split p ts us w),
+    none_twice p ts us h.1 k (λ x y. apart (inr x) y),
+  )
 
   -- ---- tilings of parts make a tiling of the whole
   -- two regions whose insides are apart
-  pub tiling_append : (R S R₁ S₁ R₂ S₂ : Point → Type 0) (ts us : List (Triple A)) → Tiling R₁ S₁ ts → Tiling R₂ S₂ us
+  pub tiling_append : (R S R₁ S₁ R₂ S₂ : Point → Type 0) (ts us : List (Triple A)) → Tiling R₁ S₁ ts
+      → Tiling R₂ S₂ us
       → ((p : Point) → R p → R₁ p ⊎ R₂ p) → ((p : Point) → R₁ p → R p) → ((p : Point) → R₂ p → R p)
       → ((p : Point) → S₁ p → S p) → ((p : Point) → S₂ p → S p) → ((p : Point) → S₁ p → S₂ p → ⊥)
       → Tiling R S (ts ++ us)
   tiling_append R S R₁ S₁ R₂ S₂ ts us h k cut in₁ in₂ on₁ on₂ apart = record {
     ccw = all_append IsCcw ts us h.ccw k.ccw;
     within = λ p w. ⊎_elim (λ x. in₁ p (h.within p x)) (λ y. in₂ p (k.within p y)) (held_split p ts us w);
-    full = λ p r. ⊎_elim (λ x. held_left p ts us (h.full p x)) (λ y. held_right p ts us (k.full p y)) (cut p r);
+    full = λ p r. ⊎_elim (λ x. held_left p ts us (h.full p x)) (λ y. held_right p ts us (k.full p y))
+        (cut p r);
     inner = λ p w. ⊎_elim (λ x. on₁ p (h.inner p x)) (λ y. on₂ p (k.inner p y)) (inside_split p ts us w);
     once = λ p. none_twice p ts us (h.once p) (k.once p) (λ x y. apart p (h.inner p x) (k.inner p y));
   }
 
   -- both regions together
-  pub tiling_union : (R₁ S₁ R₂ S₂ : Point → Type 0) (ts us : List (Triple A)) → Tiling R₁ S₁ ts → Tiling R₂ S₂ us
+  pub tiling_union : (R₁ S₁ R₂ S₂ : Point → Type 0) (ts us : List (Triple A)) → Tiling R₁ S₁ ts
+      → Tiling R₂ S₂ us
       → ((p : Point) → S₁ p → S₂ p → ⊥) → Tiling (λ p. R₁ p ⊎ R₂ p) (λ p. S₁ p ⊎ S₂ p) (ts ++ us)
   tiling_union R₁ S₁ R₂ S₂ ts us h k apart =
       tiling_append (λ p. R₁ p ⊎ R₂ p) (λ p. S₁ p ⊎ S₂ p) R₁ S₁ R₂ S₂ ts us h k
-        (λ p r. r) (λ p r. inl r) (λ p r. inr r) (λ p r. inl r) (λ p r. inr r) apart
+      (λ p r. r) (λ p r. inl r) (λ p r. inr r) (λ p r. inl r) (λ p r. inr r) apart
 
   -- another word for the same region
   pub tiling_same : (R S R' S' : Point → Type 0) (ts : List (Triple A)) → ((p : Point) → R p → R' p)
       → ((p : Point) → R' p → R p) → ((p : Point) → S p → S' p) → Tiling R S ts → Tiling R' S' ts
   tiling_same R S R' S' ts f g s h = record {
-    ccw = h.ccw; within = λ p w. f p (h.within p w); full = λ p r. h.full p (g p r);
-    inner = λ p w. s p (h.inner p w); once = h.once;
+    ccw = h.ccw;
+    within = λ p w. f p (h.within p w);
+    full = λ p r. h.full p (g p r);
+    inner = λ p w. s p (h.inner p w);
+    once = h.once;
   }
 
   -- one triangle

@@ -32,8 +32,9 @@ turned_back a b p =
 -- the three sides at any point add up to the doubled area
 pub three_sides : (a b c p : Point) → (turn a b p +ℤ turn b c p) +ℤ turn c a p ≡ turn a b c
 three_sides a b c p =
-    by_ring (add (add (turned_points 0 1 3) (turned_points 1 2 3)) (turned_points 2 0 3)) (turned_points 0 1 2)
-      (points (a ∷ b ∷ c ∷ p ∷ [])) refl
+    by_ring (add (add (turned_points 0 1 3) (turned_points 1 2 3)) (turned_points 2 0 3))
+    (turned_points 0 1 2)
+    (points (a ∷ b ∷ c ∷ p ∷ [])) refl
 
 -- one corner on
 pub turned_on : (a b c : Point) → turn b c a ≡ turn a b c
@@ -47,11 +48,13 @@ pub turn_at_second : (a b : Point) → turn a b b ≡ pos 0
 turn_at_second a b = by_ring (turned_points 0 1 1) (num 0) (points (a ∷ b ∷ [])) refl
 
 -- the side at the scale s, as a turn of the corners where they lie at that scale
-pub side_scaled : (a b : Corner) (s x y : ℤ) → s *ℤ side_of a b s x y ≡ turn (place_at s a) (place_at s b) (point x y)
+pub side_scaled : (a b : Corner) (s x y : ℤ)
+    → s *ℤ side_of a b s x y ≡ turn (place_at s a) (place_at s b) (point x y)
 side_scaled a b s x y =
     by_ring
-      (mul (var 4)
-        (sub (mul (sub (var 2) (var 0)) (sub (var 6) (mul (var 4) (var 1))))
-          (mul (sub (var 3) (var 1)) (sub (var 5) (mul (var 4) (var 0))))))
-      (turned (mul (var 4) (var 0)) (mul (var 4) (var 1)) (mul (var 4) (var 2)) (mul (var 4) (var 3)) (var 5) (var 6))
-      (a.u ∷ a.v ∷ b.u ∷ b.v ∷ s ∷ x ∷ y ∷ []) refl
+    (mul (var 4)
+    (sub (mul (sub (var 2) (var 0)) (sub (var 6) (mul (var 4) (var 1))))
+    (mul (sub (var 3) (var 1)) (sub (var 5) (mul (var 4) (var 0))))))
+    (turned (mul (var 4) (var 0)) (mul (var 4) (var 1)) (mul (var 4) (var 2)) (mul (var 4) (var 3)) (var 5)
+    (var 6))
+    (a.u ∷ a.v ∷ b.u ∷ b.v ∷ s ∷ x ∷ y ∷ []) refl

@@ -1,7 +1,7 @@
 -- A fan round a point strictly inside a rectangle tiles the rectangle.
 use Rattle.std.specs.Prelude.{◌≡◌, ℤ, ◌*ℤ◌, ◌≤ℤ◌, ◌<ℤ◌, List, [], ◌∷◌, ◌++◌, map}
 use Rattle.mesh_plane.specs.declared.corner.Corner.{Corner}
-use Rattle.mesh_plane.specs.Plane.{Point, point, place_at}
+use Rattle.mesh_plane.specs.Plane.{Point, point}
 use Rattle.mesh_plane.specs.Cover.{Tiles}
 use Rattle.mesh_plane.specs.Triangles.{tri_of, fan, Side, South, East, North, West}
 

@@ -6,3 +6,4 @@ pub mod Fan
 pub mod Strip
 pub mod Join
 pub mod Continuity
+pub mod Quadtree

@@ -29,9 +29,11 @@ IsOutside West outer inner = outer <ℤ inner
 abbrev pub Ascend : {A : Type 0} → (A → Point) → Side → ℤ → ℤ → A → A → List (Step A) → Type 0
 Ascend at side outer inner o n [] = Unit {0}
 Ascend at side outer inner o n (Outer x ∷ steps) =
-    (across side (at x) ≡ outer) × (along side (at o) <ℤ along side (at x)) × Ascend at side outer inner x n steps
+    (across side (at x) ≡ outer) × (along side (at o) <ℤ along side (at x))
+    × Ascend at side outer inner x n steps
 Ascend at side outer inner o n (Inner x ∷ steps) =
-    (across side (at x) ≡ inner) × (along side (at n) <ℤ along side (at x)) × Ascend at side outer inner o x steps
+    (across side (at x) ≡ inner) × (along side (at n) <ℤ along side (at x))
+    × Ascend at side outer inner o x steps
 
 -- the point (x/s, y/s) lies in the closed quadrilateral of four corners that run counter-clockwise
 pub record InQuad (a b c d : Corner) (s x y : ℤ) : Type 0 where
@@ -50,8 +52,9 @@ InStrip West o n o' n' = InQuad o n n' o'
 -- in whatever order the points of the two lines are taken, at least two on each
 abbrev pub StripLaw : Type 0
 StripLaw = (side : Side) (outer inner : ℤ) (o n : Corner) (steps : List (Step Corner))
-    → let at : Corner → Point = λ k. point k.u k.v in let o' = outer_end o steps in let n' = inner_end n steps in
-      IsOutside side outer inner → across side (at o) ≡ outer → across side (at n) ≡ inner
+    → let at : Corner → Point = λ k. point k.u k.v in let o' = outer_end o steps in
+    let n' = inner_end n steps in
+    IsOutside side outer inner → across side (at o) ≡ outer → across side (at n) ≡ inner
     → Ascend at side outer inner o n steps
     → along side (at o) <ℤ along side (at o') → along side (at n) <ℤ along side (at n')
     → Tiles (InStrip side o n o' n') (map tri_of (strip side o n steps))

@@ -1,9 +1,11 @@
--- Heights of triangles' planes. A height is a fraction, given as two whole numbers of which the second is above 0.
+-- Heights of triangles' planes. A height is a fraction, given as two whole numbers of which the second is
+-- above 0.
 use Rattle.std.specs.Prelude.{◌≡◌, ℤ, pos, ◌+ℤ◌, ◌-ℤ◌, ◌*ℤ◌, ◌≤ℤ◌, ◌<ℤ◌, List, Any, unsigned_abs}
 use Rattle.mesh_plane.specs.declared.corner.Tri.{Tri}
 use Rattle.mesh_plane.specs.Plane.{side_of, doubled_area, Holds}
 
--- the height of the triangle's plane at the point (x/s, y/s) is lift_of over s times the doubled area: at each
+-- the height of the triangle's plane at the point (x/s, y/s) is lift_of over s times the doubled area: at
+-- each
 -- corner it is the corner's height, and between them it is straight
 abbrev pub lift_of : Tri → ℤ → ℤ → ℤ → ℤ
 lift_of t s x y =
@@ -17,7 +19,8 @@ SameHeight s x y t u = lift_of t s x y *ℤ doubled_area u ≡ lift_of u s x y *
 abbrev pub HasHeight : ℤ → ℤ → ℤ → ℤ → ℤ → Tri → Type 0
 HasHeight s x y over under t = lift_of t s x y *ℤ under ≡ over *ℤ (s *ℤ doubled_area t)
 
--- the surface of a list of triangles has the height over/under at the point: some triangle holds the point, and
+-- the surface of a list of triangles has the height over/under at the point: some triangle holds the point,
+-- and
 -- its plane has that height there
 pub record Surface (ts : List Tri) (s x y over under : ℤ) : Type 0 where
   pub above_zero : pos 0 <ℤ under
@@ -27,7 +30,8 @@ pub record Surface (ts : List Tri) (s x y over under : ℤ) : Type 0 where
 abbrev pub size_of : ℤ → ℤ
 size_of z = pos (unsigned_abs z)
 
--- s times the doubled area, and that many times the size of the difference of the plane and a height in metres
+-- s times the doubled area, and that many times the size of the difference of the plane and a height in
+-- metres
 abbrev pub gap_under : Tri → ℤ → ℤ
 gap_under t s = s *ℤ doubled_area t
 

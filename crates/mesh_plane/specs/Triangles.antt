@@ -30,7 +30,8 @@ pub data Step (A : Type 0) : Type 0 where
   Outer : A → Step A
   Inner : A → Step A
 
--- the triangle of an outer point, an inner one and the next point after them, counter-clockwise where south and
+-- the triangle of an outer point, an inner one and the next point after them, counter-clockwise where south
+-- and
 -- north strips run eastwards, and west and east ones northwards
 abbrev pub cornered : {A : Type 0} → Side → A → A → A → Triple A
 cornered South o n next = record { a = o; b = next; c = n }

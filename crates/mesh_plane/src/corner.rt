@@ -2,7 +2,8 @@
 
 ghost use Rattle.std.specs.Prelude.{◌≡◌, ◌↔◌, ℤ, pos, ◌+ℤ◌, ◌-ℤ◌, ◌*ℤ◌, ◌≤ℤ◌, ◌^◌, ◌≤◌, IsTrue, unsigned_abs};
 
-/// A corner of a triangle: its place on the tile, each coordinate from 0 to 32767, and its height in metres.
+/// A corner of a triangle: its place on the tile, each coordinate from 0 to 32767, and its height in
+/// metres.
 #[derive(Clone, Copy, Debug, PartialEq, Eq)]
 pub struct Corner {
     pub u: i64,
@@ -18,7 +19,8 @@ pub struct Tri {
     pub c: Corner,
 }
 
-ghost use Rattle.mesh_plane.specs.Plane.{side_of, doubled_area, Holds, IsScale, IsTilePoint, IsOnTile, IsTileTri};
+ghost use Rattle.mesh_plane.specs.Plane.{side_of, doubled_area, Holds};
+ghost use Rattle.mesh_plane.specs.Plane.{IsScale, IsTilePoint, IsOnTile, IsTileTri};
 
 /// A coordinate at a scale.
 fn scaled(scale: i64, n: i64) -> i64
@@ -42,8 +44,9 @@ fn product(a: i64, b: i64) -> i64
     a * b
 }
 
-/// The side of the line from `a` to `b` on which the point (u/scale, v/scale) lies: twice the area of the triangle of
-/// the three, times the scale. It is above 0 to the left of the line, 0 on it and below 0 to the right.
+/// On which side of the line from `a` to `b` the point (u/scale, v/scale) lies: twice the area of the
+/// triangle of the three, times the scale. It is above 0 to the left of the line, 0 on it and below 0 to
+/// the right.
 pub fn side(a: &Corner, b: &Corner, scale: i64, u: i64, v: i64) -> i128
     requires a { IsOnTile a.now }
     requires b { IsOnTile b.now }

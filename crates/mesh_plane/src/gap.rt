@@ -46,8 +46,8 @@ fn area_at(tri: &Tri, scale: i64) -> i128
     i128::from(scale) * i128::from(doubled(tri))
 }
 
-/// How far `metres` is from the height of the triangle's plane at the point (u/scale, v/scale), as a fraction of
-/// metres. `under` is above 0, since the triangle is counter-clockwise.
+/// How far `metres` is from the height of the triangle's plane at the point (u/scale, v/scale), as a
+/// fraction of a metre. `under` is above 0, since the triangle is counter-clockwise.
 pub fn height_gap(tri: &Tri, scale: i64, u: i64, v: i64, metres: i32) -> Gap
     requires tri { IsTileTri tri.now }
     requires scale { IsScale scale }

@@ -5,30 +5,26 @@ ghost use Rattle.mesh_plane.specs.Strip.{StripLaw};
 ghost use Rattle.mesh_plane.specs.Join.{JoinLaw};
 ghost use Rattle.mesh_plane.specs.Continuity.{ContinuityLaw};
 
-/// The triangles of a point strictly inside a rectangle with each two neighbours on a ring round it tile the
-/// rectangle. The ring lies on the border, counter-clockwise, and has the rectangle's four corners.
+/// The triangles of a point strictly inside a rectangle with each two neighbours on a ring round it tile
+/// the rectangle. The ring lies on the border, counter-clockwise, and has the rectangle's four corners.
 pub fn fan()
     ensures { FanLaw }
-{
-}
+{}
 
-/// A strip of triangles between two lines along an axis tiles the quadrilateral between its ends, on each of the
-/// four sides of a square and in whatever order the points of the two lines are taken.
+/// A strip of triangles between two lines along an axis tiles the quadrilateral between its ends, on each
+/// of the four sides of a square and in whatever order the points of the two lines are taken.
 pub fn strip()
     ensures { StripLaw }
-{
-}
+{}
 
-/// Where a line has all corners of one list of triangles on its one closed side, and all of another list on the
-/// other, and neither list holds a point strictly twice, both together do not.
+/// Where a line has all corners of one list of triangles on its one closed side, and all of another list on
+/// the other, and neither list holds a point strictly twice, both together do not.
 pub fn join()
     ensures { JoinLaw }
-{
-}
+{}
 
-/// Where the planes of two triangles have one height at two different points, they have one height at each point of
-/// the line through these.
+/// Where the planes of two triangles have one height at two different points, they have one height at each
+/// point of the line through these.
 pub fn continuity()
     ensures { ContinuityLaw }
-{
-}
+{}

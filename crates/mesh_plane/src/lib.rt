@@ -1,4 +1,5 @@
-//! Sides, planes and heights of triangles in exact whole numbers, and the laws by which triangles cover a region once.
+//! Sides, planes and heights of triangles in exact whole numbers, and the laws by which triangles cover a
+//! region once.
 #![tactic(auto)]
 
 mod corner;
@@ -7,3 +8,6 @@ pub mod laws;
 
 pub use corner::{Corner, Tri, side, within};
 pub use gap::{Gap, ceil_gap, height_gap};
+
+#[cfg(test)]
+mod tests;

@@ -13,11 +13,20 @@ is_sum a b p n q m h k = record { is = omega (arith, h.is, k.is, sum_is_lem a b)
 pub is_neg : (a : ℤ) (p n : ℕ) → Is a p n → Is (neg_ℤ a) n p
 is_neg a p n h = record { is = omega (arith, h.is, neg_is a) }
 
-times_eq : (a b c d p n q m : ℕ) → a + n ≡ b + p → c + m ≡ d + q → (a * c + b * d) + (p * m + n * q) ≡ (a * d + b * c) + (p * q + n * m)
-times_eq a b c d p n q m h k = omega (arith, ap (λ (t : ℕ). t * c) h, ap (λ (t : ℕ). t * d) h, ap (λ (t : ℕ). p * t) k, ap (λ (t : ℕ). n * t) k)
+times_eq : (a b c d p n q m : ℕ) → a + n ≡ b + p → c + m ≡ d + q
+    → (a * c + b * d) + (p * m + n * q) ≡ (a * d + b * c) + (p * q + n * m)
+times_eq a b c d p n q m h k =
+    omega (
+      arith,
+      ap (λ (t : ℕ). t * c) h,
+      ap (λ (t : ℕ). t * d) h,
+      ap (λ (t : ℕ). p * t) k,
+      ap (λ (t : ℕ). n * t) k,
+    )
 
 pub is_product : (a b : ℤ) (p n q m : ℕ) → Is a p n → Is b q m → Is (a *ℤ b) (p * q + n * m) (p * m + n * q)
-is_product a b p n q m h k = record { is = omega (arith, times_eq (up a) (down a) (up b) (down b) p n q m h.is k.is, product_is a b) }
+is_product a b p n q m h k =
+    record { is = omega (arith, times_eq (up a) (down a) (up b) (down b) p n q m h.is k.is, product_is a b) }
 
 pub data Expr : Type 0 where
   var : ℕ → Expr
@@ -51,9 +60,16 @@ half (mul a b) s r = half a true r * half b s r + half a false r * half b (not s
 pub reads : (e : Expr) (r : List ℤ) → Is (val e r) (half e true r) (half e false r)
 reads (var i) r = record { is = omega arith }
 reads (num n) r = record { is = omega arith }
-reads (add a b) r = is_sum (val a r) (val b r) (half a true r) (half a false r) (half b true r) (half b false r) (reads a r) (reads b r)
-reads (sub a b) r = is_sum (val a r) (neg_ℤ (val b r)) (half a true r) (half a false r) (half b false r) (half b true r) (reads a r) (is_neg (val b r) (half b true r) (half b false r) (reads b r))
-reads (mul a b) r = is_product (val a r) (val b r) (half a true r) (half a false r) (half b true r) (half b false r) (reads a r) (reads b r)
+reads (add a b) r =
+    is_sum (val a r) (val b r) (half a true r) (half a false r) (half b true r) (half b false r) (reads a r)
+    (reads b r)
+reads (sub a b) r =
+    is_sum (val a r) (neg_ℤ (val b r)) (half a true r) (half a false r) (half b false r) (half b true r)
+    (reads a r) (is_neg (val b r) (half b true r) (half b false r) (reads b r))
+reads (mul a b) r =
+    is_product (val a r) (val b r) (half a true r) (half a false r) (half b true r) (half b false r)
+    (reads a r) (reads b r)
 
-pub same : (e f : Expr) (r : List ℤ) → half e true r + half f false r ≡ half f true r + half e false r → val e r ≡ val f r
+pub same : (e f : Expr) (r : List ℤ) → half e true r + half f false r ≡ half f true r + half e false r
+    → val e r ≡ val f r
 same e f r h = same_in (val e r) (val f r) (omega (arith, (reads e r).is, (reads f r).is))

@@ -1,6 +1,5 @@
 -- The line of a cell.
-use Rattle.std.specs.Prelude.{ℕ, ℤ, List, [], ◌∷◌, codes, decimal, Option, option_map}
-use Rattle.terrain_base.specs.declared.post.Extremes.{Extremes}
+use Rattle.std.specs.Prelude.{ℕ, List, [], ◌∷◌, codes, decimal, option_map}
 use Rattle.terrain_base.specs.SquareText.{square_text}
 use Rattle.dted_cell.specs.Cell.{square_in, level_in, columns_in, rows_in, extremes_in, voids_in}
 use Rattle.report_text.specs.Words.{level_number, number_or_dash, joined}

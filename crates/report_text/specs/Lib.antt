@@ -1,3 +1,5 @@
 pub mod Cell
 pub mod Refusal
+pub mod Tile
+pub mod TileRefusal
 pub mod Words

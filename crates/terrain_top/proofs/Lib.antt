@@ -1,1 +1,1 @@
-pub mod CellReplies
+pub mod FileReplies

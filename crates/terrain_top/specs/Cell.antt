@@ -1,16 +1,13 @@
 -- The reply to `cell`.
-use Rattle.std.specs.Prelude.{ℕ, List, [], ◌∷◌, ◌++◌, length, codes, decimal, Option, Some, None, nat_lt, if◌then◌else◌}
+use Rattle.std.specs.Prelude.{ℕ, List, [], ◌∷◌, codes, Option, Some, None}
 use Rattle.dted_cell.specs.declared.refusal.CellRefusal.{CellRefusal}
 use Rattle.dted_cell.specs.Refusal.{refusal_of}
 use Rattle.report_text.specs.Words.{joined}
 use Rattle.report_text.specs.Cell.{cell_line_of}
 use Rattle.report_text.specs.Refusal.{cell_refusal_of}
-use Rattle.terrain_top.specs.declared.status.Status.TheVariants.{Done, Refused}
+use Rattle.terrain_top.specs.declared.status.Status.TheVariants.{Done}
+use Rattle.terrain_top.specs.File.{refused, file_reply}
 use Rattle.terrain_top.specs.Reply.{Reply}
-
--- a refusal is one line
-abbrev pub refused : List ℕ → Reply
-refused cause = record { status = Refused; text = joined (codes "refused " ∷ cause ∷ codes "\n" ∷ []) }
 
 -- a good cell is told in one line
 abbrev pub read_reply_by : List ℕ → Option CellRefusal → Reply
@@ -26,7 +23,4 @@ cell_limit = 33554432
 
 -- by what the library holds under the file's name
 abbrev pub cell_reply : List ℕ → Option (List ℕ) → Reply
-cell_reply file None = refused (joined (codes "F1 absent " ∷ file ∷ []))
-cell_reply file (Some bytes) =
-    if nat_lt cell_limit (length bytes) then refused (joined (codes "F2 too long " ∷ file ∷ codes " limit " ∷ decimal cell_limit ∷ []))
-    else read_reply bytes
+cell_reply file held = file_reply file cell_limit read_reply held

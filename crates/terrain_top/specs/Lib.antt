@@ -1,4 +1,6 @@
+pub mod Audit
 pub mod Cell
+pub mod File
 pub mod Meant
 pub mod Reply
 pub mod Status

@@ -1,5 +1,5 @@
 -- What a command comes to: its status and its text.
-use Rattle.std.specs.Prelude.{◌≡◌, ℕ, ◌≤◌, List, ◌++◌, Option, Some, Result, IsErrOf, string_bytes}
+use Rattle.std.specs.Prelude.{◌≡◌, ℕ, ◌≤◌, List, Result, IsErrOf, string_bytes}
 use Rattle.terrain_base.specs.Cause.{Rose}
 use Rattle.terrain_top.specs.declared.status.Status.{Status}
 use Rattle.terrain_top.specs.declared.stop.Stop.{Stop}

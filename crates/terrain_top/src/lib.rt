@@ -2,14 +2,15 @@
 #![tactic(auto)]
 
 mod answer;
+mod audit;
 mod cell;
+mod file;
 mod status;
 mod stop;
-mod top;
-mod words;
-
 #[cfg(test)]
 mod tests;
+mod top;
+mod words;
 
 pub use status::Status;
 pub use top::run;

@@ -9,6 +9,7 @@ ghost use Rattle.terrain_top.specs.Words.{command_of};
 
 use crate::Status;
 use crate::answer::Answer;
+use crate::audit::answer_to_audit;
 use crate::cell::answer_to_cell;
 use crate::stop::Stop;
 use crate::words::{Command, USAGE, command_in};
@@ -26,6 +27,7 @@ fn answer_to<Li: Library>(alloc: Global, words: &[String], files: &mut Li) -> Re
 {
     match command_in(words) {
         Some(Command::Cell { file }) => answer_to_cell(alloc, files, file),
+        Some(Command::Audit { file }) => answer_to_audit(alloc, files, file),
         None => {
             let text = String::from_str(alloc, USAGE)?;
             Ok(Answer {

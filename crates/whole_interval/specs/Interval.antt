@@ -17,10 +17,11 @@ pub record IsWithin (k : ℕ) (a : Interval) : Type 0 where
   pub ordered : a.lo ≤ℤ a.hi
   pub high : a.hi ≤ℤ pos (2 ^ k)
 
--- the least and the greatest of four
+-- the least of four
 abbrev pub least_of : ℤ → ℤ → ℤ → ℤ → ℤ
 least_of p q r s = int_min (int_min p q) (int_min r s)
 
+-- the greatest of four
 abbrev pub greatest_of : ℤ → ℤ → ℤ → ℤ → ℤ
 greatest_of p q r s = int_max (int_max p q) (int_max r s)
 
@@ -56,8 +57,8 @@ mul_of a b = record {
 unfoldable pub div_whole_of : Interval → ℕ → Interval
 div_whole_of a k = record { lo = floor_of a.lo (pos k); hi = ceil_of a.hi (pos k) }
 
--- the quotients by an interval above 0: the least is that of the low end by the low end where it is below 0,
--- else by the high end, and the greatest is that of the high end by the other one
+-- the quotients by an interval above 0: the low end over the high end of b, or over its low end where the
+-- quotient is below 0; the high end over the low end of b, or over its high end where the quotient is below 0
 unfoldable pub div_pos_of : Interval → Interval → Interval
 div_pos_of a b = record {
   lo = floor_of (a.lo *ℤ pos (2 ^ 48)) (if int_lt a.lo (pos 0) then b.lo else b.hi);

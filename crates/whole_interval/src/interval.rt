@@ -9,7 +9,7 @@ ghost use Rattle.whole_interval.specs.Interval.{div_pos_of, sqrt_of, negated_of}
 
 use terrain_base::{ceil_div, floor_div, isqrt};
 
-// The scale of the ends: 2^48.
+/// The number 1 as an end: 2^48.
 pub const ONE: i128 = 0x1_0000_0000_0000;
 
 /// The numbers from lo / 2^48 to hi / 2^48. Each operation takes and gives lo at most hi.

@@ -13,9 +13,12 @@ overflow_sub-result c = omega (arith, ints, c.product-across.ensures, c.product-
 pub returns-clause-value : goal.returns-clause-value
 returns-clause-value c =
     let t = c.args.tri.now in
-    let f1 : FitsSigned w64 t.a.u = omega (arith, ints, c.requires.a) in let f2 : FitsSigned w64 t.a.v = omega (arith, ints, c.requires.a) in
-    let f3 : FitsSigned w64 t.b.u = omega (arith, ints, c.requires.b) in let f4 : FitsSigned w64 t.b.v = omega (arith, ints, c.requires.b) in
-    let f5 : FitsSigned w64 t.c.u = omega (arith, ints, c.requires.c) in let f6 : FitsSigned w64 t.c.v = omega (arith, ints, c.requires.c) in
+    let f1 : FitsSigned w64 t.a.u = omega (arith, ints, c.requires.a) in
+    let f2 : FitsSigned w64 t.a.v = omega (arith, ints, c.requires.a) in
+    let f3 : FitsSigned w64 t.b.u = omega (arith, ints, c.requires.b) in
+    let f4 : FitsSigned w64 t.b.v = omega (arith, ints, c.requires.b) in
+    let f5 : FitsSigned w64 t.c.u = omega (arith, ints, c.requires.c) in
+    let f6 : FitsSigned w64 t.c.v = omega (arith, ints, c.requires.c) in
     let g1 : FitsSigned w64 (t.b.u -ℤ t.a.u) = omega (arith, ints, c.requires.a, c.requires.b) in
     let g2 : FitsSigned w64 (t.b.v -ℤ t.a.v) = omega (arith, ints, c.requires.a, c.requires.b) in
     let g3 : FitsSigned w64 (t.c.u -ℤ t.a.u) = omega (arith, ints, c.requires.a, c.requires.c) in
@@ -23,7 +26,7 @@ returns-clause-value c =
     let h1 : FitsSigned w64 c.product-across.result = omega (arith, ints, c.product-across.ensures.size) in
     let h2 : FitsSigned w64 c.product-along.result = omega (arith, ints, c.product-along.ensures.size) in
     let h3 : FitsSigned w64 (c.product-across.result -ℤ c.product-along.result) =
-          omega (arith, ints, c.product-across.ensures.size, c.product-along.ensures.size) in
+    omega (arith, ints, c.product-across.ensures.size, c.product-along.ensures.size) in
     let e1 = simp to_z-of_z at c.product-across.ensures.value in
     let e2 = simp to_z-of_z at c.product-along.ensures.value in
     simp to_z-of_z (cc (e1, e2))
@@ -33,5 +36,5 @@ returns-clause-size c =
     let h1 : FitsSigned w64 c.product-across.result = omega (arith, ints, c.product-across.ensures.size) in
     let h2 : FitsSigned w64 c.product-along.result = omega (arith, ints, c.product-along.ensures.size) in
     let h3 : FitsSigned w64 (c.product-across.result -ℤ c.product-along.result) =
-          omega (arith, ints, c.product-across.ensures.size, c.product-along.ensures.size) in
+    omega (arith, ints, c.product-across.ensures.size, c.product-along.ensures.size) in
     simp to_z-of_z (omega (arith, ints, c.product-across.ensures.size, c.product-along.ensures.size))

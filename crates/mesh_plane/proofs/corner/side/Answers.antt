@@ -1,6 +1,6 @@
 -- The two products fit, and so does their difference.
 use Rattle.std.proofs.Common.{arith, FitsSigned, w64}
-use Rattle.std.specs.Prelude.{◌≡◌, ◌-ℤ◌, ◌*ℤ◌, unsigned_abs}
+use Rattle.std.specs.Prelude.{◌-ℤ◌}
 use Rattle.std.specs.Int.{w128}
 use Rattle.std.proofs.lemmas.Int.{ints, to_z-of_z}
 use Rattle.mesh_plane.proofs.corner.side.Goals as goal
@@ -9,7 +9,8 @@ pub overflow_sub-b-2 : goal.overflow_sub-b-2
 overflow_sub-b-2 c = omega (arith, ints, c.requires.a, c.requires.b)
 
 pub overflow_sub-u : goal.overflow_sub-u
-overflow_sub-u c = omega (arith, ints, c.requires.scale, c.requires.point, c.scaled-2.ensures.low, c.scaled-2.ensures.high)
+overflow_sub-u c =
+    omega (arith, ints, c.requires.scale, c.requires.point, c.scaled-2.ensures.low, c.scaled-2.ensures.high)
 
 pub product-along-requires-clause-a : goal.product-along-requires-clause-a
 product-along-requires-clause-a c = omega (arith, ints, c.requires.a, c.requires.b)
@@ -25,26 +26,38 @@ pub returns-clause-value : goal.returns-clause-value
 returns-clause-value c =
     let a = c.args.a.now in let b = c.args.b.now in
     let r1 = c.ranges.scale in let r2 = c.ranges.u in let r3 = c.ranges.v in
-    let f1 : FitsSigned w64 a.u = omega (arith, ints, c.requires.a) in let f2 : FitsSigned w64 a.v = omega (arith, ints, c.requires.a) in
-    let f3 : FitsSigned w64 b.u = omega (arith, ints, c.requires.b) in let f4 : FitsSigned w64 b.v = omega (arith, ints, c.requires.b) in
+    let f1 : FitsSigned w64 a.u = omega (arith, ints, c.requires.a) in
+    let f2 : FitsSigned w64 a.v = omega (arith, ints, c.requires.a) in
+    let f3 : FitsSigned w64 b.u = omega (arith, ints, c.requires.b) in
+    let f4 : FitsSigned w64 b.v = omega (arith, ints, c.requires.b) in
     let g1 : FitsSigned w64 (b.u -ℤ a.u) = omega (arith, ints, c.requires.a, c.requires.b) in
     let g2 : FitsSigned w64 (b.v -ℤ a.v) = omega (arith, ints, c.requires.a, c.requires.b) in
-    let s1 : FitsSigned w64 c.scaled.result = omega (arith, ints, c.requires.scale, c.scaled.ensures.low, c.scaled.ensures.high) in
-    let s2 : FitsSigned w64 c.scaled-2.result = omega (arith, ints, c.requires.scale, c.scaled-2.ensures.low, c.scaled-2.ensures.high) in
+    let s1 : FitsSigned w64 c.scaled.result =
+    omega (arith, ints, c.requires.scale, c.scaled.ensures.low, c.scaled.ensures.high) in
+    let s2 : FitsSigned w64 c.scaled-2.result =
+    omega (arith, ints, c.requires.scale, c.scaled-2.ensures.low, c.scaled-2.ensures.high) in
     let d1 : FitsSigned w64 (c.args.v -ℤ c.scaled.result) =
-          omega (arith, ints, c.requires.scale, c.requires.point, c.scaled.ensures.low, c.scaled.ensures.high) in
+    omega (arith, ints, c.requires.scale, c.requires.point, c.scaled.ensures.low, c.scaled.ensures.high) in
     let d2 : FitsSigned w64 (c.args.u -ℤ c.scaled-2.result) =
-          omega (arith, ints, c.requires.scale, c.requires.point, c.scaled-2.ensures.low, c.scaled-2.ensures.high) in
+    omega (
+      arith,
+      ints,
+      c.requires.scale,
+      c.requires.point,
+      c.scaled-2.ensures.low,
+      c.scaled-2.ensures.high,
+    ) in
     let h1 : FitsSigned w64 c.product-across.result = omega (arith, ints, c.product-across.ensures.size) in
     let h2 : FitsSigned w64 c.product-along.result = omega (arith, ints, c.product-along.ensures.size) in
     let h3 : FitsSigned w64 (c.product-across.result -ℤ c.product-along.result) =
-          omega (arith, ints, c.product-across.ensures.size, c.product-along.ensures.size) in
+    omega (arith, ints, c.product-across.ensures.size, c.product-along.ensures.size) in
     let v1 = simp to_z-of_z at c.scaled.ensures.value in
     let v2 = simp to_z-of_z at c.scaled-2.ensures.value in
     let e1 = simp to_z-of_z at c.product-across.ensures.value in
     let e2 = simp to_z-of_z at c.product-along.ensures.value in
     let e3 = simp to_z-of_z at c.from.ensures in
-    let h4 : FitsSigned w128 c.from.result = omega (arith, ints, e3, c.product-across.ensures.size, c.product-along.ensures.size) in
+    let h4 : FitsSigned w128 c.from.result =
+    omega (arith, ints, e3, c.product-across.ensures.size, c.product-along.ensures.size) in
     simp to_z-of_z (cc (v1, v2, e1, e2, e3))
 
 pub returns-clause-size : goal.returns-clause-size
@@ -52,7 +65,8 @@ returns-clause-size c =
     let h1 : FitsSigned w64 c.product-across.result = omega (arith, ints, c.product-across.ensures.size) in
     let h2 : FitsSigned w64 c.product-along.result = omega (arith, ints, c.product-along.ensures.size) in
     let h3 : FitsSigned w64 (c.product-across.result -ℤ c.product-along.result) =
-          omega (arith, ints, c.product-across.ensures.size, c.product-along.ensures.size) in
+    omega (arith, ints, c.product-across.ensures.size, c.product-along.ensures.size) in
     let e3 = simp to_z-of_z at c.from.ensures in
-    let h4 : FitsSigned w128 c.from.result = omega (arith, ints, e3, c.product-across.ensures.size, c.product-along.ensures.size) in
+    let h4 : FitsSigned w128 c.from.result =
+    omega (arith, ints, e3, c.product-across.ensures.size, c.product-along.ensures.size) in
     simp to_z-of_z (omega (arith, ints, e3, c.product-across.ensures.size, c.product-along.ensures.size))

@@ -1,9 +1,8 @@
 -- The quotient of natural numbers is the whole part.
-use Rattle.std.proofs.Common.{◌≡◌, ℕ, ◌+◌, arith, FitsSigned}
-use Rattle.std.specs.Prelude.{ℤ, pos, negsuc, ◌-ℤ◌, ◌<ℤ◌, ◌≤ℤ◌, ◌*ℤ◌, unsigned_abs, int_div}
+use Rattle.std.proofs.Common.{arith, FitsSigned}
+use Rattle.std.specs.Prelude.{pos, ◌-ℤ◌, int_div}
 use Rattle.std.specs.Int.{w128}
-use Rattle.std.proofs.lemmas.Int.{ints, to_z-of_z, quot_is, quot_fits}
-use Rattle.mesh_plane.specs.Surface.{IsCeiling}
+use Rattle.std.proofs.lemmas.Int.{ints, to_z-of_z, quot_fits}
 use Rattle.mesh_plane.proofs.Sizes.{ceiling_above}
 use Rattle.mesh_plane.proofs.gap.ceil_gap.Goals as goal
 
@@ -13,5 +12,6 @@ returns c =
     let f1 : FitsSigned w128 over = omega (arith, ints, c.fits-gap) in
     let f2 : FitsSigned w128 under = omega (arith, ints, c.fits-gap) in
     let f3 : FitsSigned w128 (over -ℤ pos 1) = omega (arith, ints, c.fits-gap, c.if-gap-le0.false) in
-    let f4 : FitsSigned w128 (int_div (over -ℤ pos 1) under) = quot_fits w128 (over -ℤ pos 1) under f3 c.requires.above_zero in
+    let f4 : FitsSigned w128 (int_div (over -ℤ pos 1) under) =
+    quot_fits w128 (over -ℤ pos 1) under f3 c.requires.above_zero in
     simp to_z-of_z (ceiling_above over under c.requires.above_zero (omega (arith, ints, c.if-gap-le0.false)))

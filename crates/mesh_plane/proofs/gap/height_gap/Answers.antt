@@ -1,7 +1,7 @@
 -- All numbers fit 128 bits.
-use Rattle.std.proofs.Common.{◌≡◌, ◌≤◌, arith, FitsSigned, w64}
-use Rattle.std.specs.Prelude.{ℤ, pos, ◌-ℤ◌, ◌*ℤ◌, ◌<ℤ◌, unsigned_abs}
-use Rattle.std.specs.Int.{w32, w128}
+use Rattle.std.proofs.Common.{arith, FitsSigned}
+use Rattle.std.specs.Prelude.{◌-ℤ◌}
+use Rattle.std.specs.Int.{w128}
 use Rattle.std.proofs.lemmas.Int.{ints, to_z-of_z}
 use Rattle.polynomial.proofs.Signs.{times_pos}
 use Rattle.mesh_plane.specs.Plane.{doubled_area}
@@ -17,7 +17,8 @@ pub abs-requires : goal.abs-requires
 abs-requires c =
     let f1 : FitsSigned w128 c.lift.result = omega (arith, ints, c.lift.ensures.size) in
     let f2 : FitsSigned w128 c.weighted.result = omega (arith, ints, c.weighted.ensures.size) in
-    let f3 : FitsSigned w128 (c.lift.result -ℤ c.weighted.result) = omega (arith, ints, c.lift.ensures.size, c.weighted.ensures.size) in
+    let f3 : FitsSigned w128 (c.lift.result -ℤ c.weighted.result) =
+    omega (arith, ints, c.lift.ensures.size, c.weighted.ensures.size) in
     simp to_z-of_z (omega (arith, ints, c.lift.ensures.size, c.weighted.ensures.size))
 
 pub returns-clause-over : goal.returns-clause-over
@@ -26,24 +27,33 @@ returns-clause-over c =
     let f0 : FitsSigned w128 c.area_at-under.result = omega (arith, ints, c.area_at-under.ensures.size) in
     let f1 : FitsSigned w128 c.lift.result = omega (arith, ints, c.lift.ensures.size) in
     let f2 : FitsSigned w128 c.weighted.result = omega (arith, ints, c.weighted.ensures.size) in
-    let f3 : FitsSigned w128 (c.lift.result -ℤ c.weighted.result) = omega (arith, ints, c.lift.ensures.size, c.weighted.ensures.size) in
+    let f3 : FitsSigned w128 (c.lift.result -ℤ c.weighted.result) =
+    omega (arith, ints, c.lift.ensures.size, c.weighted.ensures.size) in
     let e0 = simp to_z-of_z at c.area_at-under.ensures.value in
     let e1 = simp to_z-of_z at c.lift.ensures.value in
     let e2 = simp to_z-of_z at c.weighted.ensures.value in
     let e3 = simp to_z-of_z at c.abs.ensures.value in
-    let f4 : FitsSigned w128 c.abs.result = omega (arith, ints, e3, c.lift.ensures.size, c.weighted.ensures.size) in
+    let f4 : FitsSigned w128 c.abs.result =
+    omega (arith, ints, e3, c.lift.ensures.size, c.weighted.ensures.size) in
     simp to_z-of_z (cc (e0, e1, e2, e3))
 
 pub returns-clause-under : goal.returns-clause-under
-returns-clause-under c = 
+returns-clause-under c =
     let r = c.ranges.scale in
     let f : FitsSigned w128 c.area_at-under.result = omega (arith, ints, c.area_at-under.ensures.size) in
     let e = simp to_z-of_z at c.area_at-under.ensures.value in
     simp to_z-of_z e
 
 pub returns-clause-above_zero : goal.returns-clause-above_zero
-returns-clause-above_zero c = 
+returns-clause-above_zero c =
     let r = c.ranges.scale in
     let f : FitsSigned w128 c.area_at-under.result = omega (arith, ints, c.area_at-under.ensures.size) in
     let e = simp to_z-of_z at c.area_at-under.ensures.value in
-    simp to_z-of_z (omega (arith, ints, e, times_pos c.args.scale (doubled_area c.args.tri.now) (omega (arith, ints, c.requires.scale)) c.requires.counter_clockwise))
+    simp to_z-of_z
+    (omega (
+      arith,
+      ints,
+      e,
+      times_pos c.args.scale (doubled_area c.args.tri.now)
+          (omega (arith, ints, c.requires.scale)) c.requires.counter_clockwise,
+    ))

@@ -1,0 +1,11 @@
+pub mod Number
+pub mod Mesh
+pub mod Text
+pub mod Difference
+pub mod HighWater
+pub mod Extension
+pub mod Layout
+pub mod Refusal
+pub mod Tile
+pub mod Good
+pub mod Seen

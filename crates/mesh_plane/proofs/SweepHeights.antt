@@ -1,0 +1,127 @@
+-- Sweeps, strips and fans have one height at each point.
+use Rattle.std.proofs.Common.{◌≡◌, ap, sym, arith, ◌∙◌, List, [], ◌∷◌, map, inl, ⊎_elim}
+use Rattle.std.specs.Prelude.{ℤ, pos, ◌*ℤ◌, ◌≤ℤ◌, ◌<ℤ◌}
+use Rattle.std.specs.List.{AllByRecursion}
+use Rattle.std.proofs.lemmas.Int.{ints}
+use Rattle.mesh_plane.specs.Plane.{Point}
+use Rattle.mesh_plane.specs.Triangles.{Triple, Step, Outer, Inner}
+use Rattle.mesh_plane.proofs.Turns.{turn, turned_on}
+use Rattle.mesh_plane.proofs.Tilings.{IsCcw, area, Within, Held}
+use Rattle.mesh_plane.proofs.Moves.{Alike, swapped, flipped, flipped_alike, turn_swapped, shifted, shifted_alike}
+use Rattle.mesh_plane.proofs.Sweeps.{Moves, sweep, sweep_tiles}
+use Rattle.mesh_plane.proofs.Strips.{mirror}
+use Rattle.mesh_plane.proofs.Heights.{lift, Agree, Each, OneLevel, Cross, cross_when, one_append}
+use Rattle.mesh_plane.proofs.Edges.{on_side, meets_a, meets_b, meets_c, HasEdge, edge_cross}
+
+module _ {A : Type 0} (at : A → Point) (z : A → ℤ) where
+  -- one triangle
+  pub one_alone : (p : Point) (t : Triple A) → OneLevel at z p (t ∷ [])
+  one_alone p t = ((λ i. tt), tt)
+
+  -- the first segment of a sweep, as an edge
+  first_segment : (o n : A) (s : Step A) (steps : List (Step A))
+      → AllByRecursion (IsCcw at) (sweep at o n (s ∷ steps))
+      → HasEdge at z o n (sweep at o n (s ∷ steps))
+  first_segment o n (Outer x) steps h =
+      let t : Triple A = record { a = o; b = x; c = n } in inl (h.0, meets_a at z t h.0, meets_c at z t h.0)
+  first_segment o n (Inner x) steps h =
+      let t : Triple A = record { a = o; b = x; c = n } in inl (h.0, meets_a at z t h.0, meets_c at z t h.0)
+
+  -- a triangle and a sweep that begins with its side from x to n, or from o to x
+  module _ (p : Point) where
+    outer_cross : (o n x : A) (us : List (Triple A)) → pos 0 <ℤ area at (record { a = o; b = x; c = n })
+        → HasEdge at z x n us
+        → OneLevel at z p us → (Held at p us → turn (at x) (at n) p ≤ℤ pos 0)
+        → Cross at z p (record { a = o; b = x; c = n } ∷ []) us
+    outer_cross o n x us h edge one right =
+        let t : Triple A = record { a = o; b = x; c = n } in
+        cross_when at z p (t ∷ []) us (λ i j. ⊎_elim
+        (λ (w : Within at t p).
+        let e : turn (at x) (at n) p ≡ pos 0 = omega (arith, ints, w.bc, right j) in
+        edge_cross at z x n p (turn (at n) (at o) p) (turn (at o) (at x) p) (t ∷ []) us
+        (on_side (at o) (at x) (at n) p h e w.ca w.ab)
+        (inl (h, meets_b at z t h, meets_c at z t h)) edge (one_alone p t) one)
+        (λ k. absurd k) i)
+
+    inner_cross : (o n x : A) (us : List (Triple A)) → pos 0 <ℤ area at (record { a = o; b = x; c = n })
+        → HasEdge at z o x us
+        → OneLevel at z p us → (Held at p us → turn (at o) (at x) p ≤ℤ pos 0)
+        → Cross at z p (record { a = o; b = x; c = n } ∷ []) us
+    inner_cross o n x us h edge one right =
+        let t : Triple A = record { a = o; b = x; c = n } in
+        cross_when at z p (t ∷ []) us (λ i j. ⊎_elim
+        (λ (w : Within at t p).
+        let e : turn (at o) (at x) p ≡ pos 0 = omega (arith, ints, w.ab, right j) in
+        let k : pos 0 <ℤ turn (at n) (at o) (at x) = omega (arith, ints, h, turned_on (at n) (at o) (at x)) in
+        edge_cross at z o x p (turn (at x) (at n) p) (turn (at n) (at o) p) (t ∷ []) us
+        (on_side (at n) (at o) (at x) p k e w.bc w.ca)
+        (inl (h, meets_a at z t h, meets_b at z t h)) edge (one_alone p t) one)
+        (λ k. absurd k) i)
+
+    pub sweep_one : (h : Point → ℤ) (m : ℤ) (o n : A) (s : Step A) (steps : List (Step A)) → pos 0 <ℤ m
+        → h (at o) ≡ pos 0
+        → h (at n) ≡ m → Moves at h m o n (s ∷ steps) → OneLevel at z p (sweep at o n (s ∷ steps))
+    sweep_one h m o n (Outer x) [] hm ho hn s = one_alone p (record { a = o; b = x; c = n })
+    sweep_one h m o n (Inner x) [] hm ho hn s = one_alone p (record { a = o; b = x; c = n })
+    sweep_one h m o n (Outer x) (t ∷ steps) hm ho hn s =
+        let whole = sweep_tiles at h m o n (Outer x) (t ∷ steps) hm ho hn s in
+        let rest = sweep_tiles at h m x n t steps hm s.1 hn s.2 in
+        let us = sweep at x n (t ∷ steps) in
+        let one = sweep_one h m x n t steps hm s.1 hn s.2 in
+        one_append at z p (record { a = o; b = x; c = n } ∷ []) us
+        (one_alone p (record { a = o; b = x; c = n })) one
+        (outer_cross o n x us whole.ccw.0 (first_segment x n t steps rest.ccw) one
+        (λ j. (rest.within p j).right))
+    sweep_one h m o n (Inner x) (t ∷ steps) hm ho hn s =
+        let whole = sweep_tiles at h m o n (Inner x) (t ∷ steps) hm ho hn s in
+        let rest = sweep_tiles at h m o x t steps hm ho s.1 s.2 in
+        let us = sweep at o x (t ∷ steps) in
+        let one = sweep_one h m o x t steps hm ho s.1 s.2 in
+        one_append at z p (record { a = o; b = x; c = n } ∷ []) us
+        (one_alone p (record { a = o; b = x; c = n })) one
+        (inner_cross o n x us whole.ccw.0 (first_segment o x t steps rest.ccw) one
+        (λ j. (rest.within p j).right))
+
+-- ---- lists of which each triangle is turned on or mirrored
+-- f t has at p the height and the area that t has at back p
+pub record SameHeights {A : Type 0} (from to : A → Point) (z : A → ℤ) (f : Triple A → Triple A) (back : Point
+    → Point) : Type 0 where
+  pub alike : Alike from to f back
+  pub area_is : (t : Triple A) → area to (f t) ≡ area from t
+  pub lift_is : (t : Triple A) (p : Point) → lift to z (f t) p ≡ lift from z t (back p)
+
+module _ {A : Type 0} (from to : A → Point) (z : A → ℤ) (f : Triple A → Triple A) (back : Point
+    → Point) (same : SameHeights from to z f back) (p : Point) where
+  agree_moved : (t u : Triple A) → Agree from z (back p) t u → Agree to z p (f t) (f u)
+  agree_moved t u h =
+      ap (λ i. i *ℤ area to (f u)) (same.lift_is t p)
+      ∙ ap (λ i. lift from z t (back p) *ℤ i) (same.area_is u) ∙ h
+      ∙ sym (ap (λ i. i *ℤ area to (f t)) (same.lift_is u p)
+      ∙ ap (λ i. lift from z u (back p) *ℤ i) (same.area_is t))
+
+  each_moved : (t : Triple A) (ts : List (Triple A)) → Each from z (back p) (Agree from z (back p) t) ts
+      → Each to z p (Agree to z p (f t)) (map f ts)
+  each_moved t [] h = tt
+  each_moved t (u ∷ ts) h = ((λ i. agree_moved t u (h.0 (same.alike.out u p i))), each_moved t ts h.1)
+
+  pub one_moved : (ts : List (Triple A)) → OneLevel from z (back p) ts → OneLevel to z p (map f ts)
+  one_moved [] h = tt
+  one_moved (t ∷ ts) h = ((λ i. each_moved t ts (h.0 (same.alike.out t p i))), one_moved ts h.1)
+
+pub shifted_same : {A : Type 0} (at : A → Point) (z : A → ℤ) → SameHeights at at z shifted (λ p. p)
+shifted_same at z = record {
+  alike = shifted_alike at;
+  area_is = λ t. turned_on (at t.b) (at t.c) (at t.a) ∙ turned_on (at t.a) (at t.b) (at t.c);
+  lift_is = λ t p. omega (arith, ints);
+}
+
+pub flipped_same : {A : Type 0} (at : A → Point) (z : A → ℤ) → SameHeights (mirror at) at z flipped swapped
+flipped_same at z = record {
+  alike = flipped_alike at;
+  area_is = λ t. turned_on (at t.b) (at t.a) (at t.c) ∙ sym (turn_swapped (at t.a) (at t.b) (at t.c));
+  lift_is = λ t p.
+      let e = ap (λ i. z t.a *ℤ i) (turn_swapped (at t.b) (at t.c) p) in
+      let f = ap (λ i. z t.b *ℤ i) (turn_swapped (at t.c) (at t.a) p) in
+      let g = ap (λ i. z t.c *ℤ i) (turn_swapped (at t.a) (at t.b) p) in
+      omega (arith, ints, e, f, g);
+}
