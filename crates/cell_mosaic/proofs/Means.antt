@@ -23,13 +23,18 @@ product_between (negsuc m) weight h =
     record { above = omega (arith, ints, most); below = omega (arith, ints, most) }
 
 pub both_between : (a b : ℕ) (x y : ℤ) → IsBetween a x → IsBetween b y → IsBetween (a + b) (x +ℤ y)
-both_between a b x y h k = record { above = omega (arith, ints, h.above, k.above); below = omega (arith, ints, h.below, k.below) }
+both_between a b x y h k = record {
+  above = omega (arith, ints, h.above, k.above);
+  below = omega (arith, ints, h.below, k.below);
+}
 
-pub between_sum : (a b units : ℕ) (x y z : ℤ) → a + b ≡ units → z ≡ x +ℤ y → IsBetween a x → IsBetween b y → IsBetween units z
+pub between_sum : (a b units : ℕ) (x y z : ℤ) → a + b ≡ units → z ≡ x +ℤ y → IsBetween a x → IsBetween b y
+    → IsBetween units z
 between_sum a b units x y z weights sum h k = rw (sum, ← weights) (both_between a b x y h k)
 
 -- the mean of heights is a height
-pub floor_height : (sum r : ℤ) (units : ℕ) → 0 < units → IsBetween units sum → IsFloor ((pos 2 *ℤ sum) +ℤ pos units) (pos (2 * units)) r → IsHeight r
+pub floor_height : (sum r : ℤ) (units : ℕ) → 0 < units → IsBetween units sum
+    → IsFloor ((pos 2 *ℤ sum) +ℤ pos units) (pos (2 * units)) r → IsHeight r
 floor_height sum (pos n) units p h f =
     let least : n * (2 * units) ≤ 32001 * units = omega (arith, ints, f.low, h.below) in
     let less : n < 16001 = lt_of_mul-lt-mul_right (2 * units) (omega arith) in
@@ -44,7 +49,8 @@ pub record IsNearest (sum : ℤ) (units : ℕ) (r : ℤ) : Type 0 where
   pub value : r ≡ rounded sum units
   pub height : IsHeight r
 
-pub nearest_is : (n d r sum : ℤ) (units : ℕ) → 0 < units → IsBetween units sum → r ≡ floor_of n d → IsFloor n d r → n ≡ (pos 2 *ℤ sum) +ℤ pos units → d ≡ pos (2 * units) → IsNearest sum units r
+pub nearest_is : (n d r sum : ℤ) (units : ℕ) → 0 < units → IsBetween units sum → r ≡ floor_of n d
+    → IsFloor n d r → n ≡ (pos 2 *ℤ sum) +ℤ pos units → d ≡ pos (2 * units) → IsNearest sum units r
 unfolding rounded
 nearest_is n d r sum units p h e f top bottom = record {
   value = e ∙ ap (λ x. floor_of x d) top ∙ ap (floor_of ((pos 2 *ℤ sum) +ℤ pos units)) bottom;
@@ -61,10 +67,12 @@ fits_from : (r : ℤ) → IsHeight r → FitsSigned w16 r
 fits_from r h = search rules
 
 pub height_fits : (r : ℤ) → IsHeight r → FitsSigned w16 (to_z w128 (of_z w128 r))
-height_fits r h = let same : to_z w128 (of_z w128 r) ≡ r = omega (arith, ints, h.above, h.below) in rw same (fits_from r h)
+height_fits r h = let same : to_z w128 (of_z w128 r)
+    ≡ r = omega (arith, ints, h.above, h.below) in rw same (fits_from r h)
 
 -- a product that a call gave
-pub product_passed : (metres : ℤ) (weight : ℕ) (r : ℤ) → IsHeight metres → weight ≤ 2 ^ 74 → r ≡ to_z w16 (of_z w16 metres) *ℤ pos weight → IsBetween weight (to_z w128 (of_z w128 r))
+pub product_passed : (metres : ℤ) (weight : ℕ) (r : ℤ) → IsHeight metres → weight ≤ 2 ^ 74
+    → r ≡ to_z w16 (of_z w16 metres) *ℤ pos weight → IsBetween weight (to_z w128 (of_z w128 r))
 product_passed metres weight r h few e =
     let same : to_z w16 (of_z w16 metres) ≡ metres = omega (arith, ints, h.above, h.below) in
     let between : IsBetween weight r = rw (e, same) (product_between metres weight h) in
@@ -76,48 +84,62 @@ by_parts : (a b c d : ℕ) → a * b + c * b + a * d + c * d ≡ (a + c) * (b + 
 by_parts a b c d = omega arith
 
 pub weights_sum : (east east_unit north north_unit : ℕ) → east ≤ east_unit → north ≤ north_unit
-    → (east_unit - east) * (north_unit - north) + east * (north_unit - north) + (east_unit - east) * north + east * north ≡ east_unit * north_unit
+    → (east_unit - east) * (north_unit - north) + east * (north_unit - north) + (east_unit - east) * north +
+    east * north ≡ east_unit * north_unit
 weights_sum east east_unit north north_unit h k =
     let across : east_unit - east + east ≡ east_unit = omega arith in
     let along : north_unit - north + north ≡ north_unit = omega arith in
-    by_parts (east_unit - east) (north_unit - north) east north ∙ ap (λ n. n * (north_unit - north + north)) across ∙ ap (λ n. east_unit * n) along
+    by_parts (east_unit - east) (north_unit - north) east north
+    ∙ ap (λ n. n * (north_unit - north + north)) across ∙ ap (λ n. east_unit * n) along
 
 -- ---- the corners of weight 0 add nothing
 
 zero_term : (m s : ℤ) → s ≡ m *ℤ pos 0 +ℤ s
 zero_term m s = omega (arith, ints)
 
-sum_step : (p : Bool) (c : Corner) (rest cs : List Corner) → nat_lt 0 c.weight ≡ p → weighted_sum rest ≡ weighted_sum cs → weighted_sum (cond p (c ∷ rest) rest) ≡ metres_of c.post *ℤ pos c.weight +ℤ weighted_sum cs
+sum_step : (p : Bool) (c : Corner) (rest cs : List Corner) → nat_lt 0 c.weight ≡ p
+    → weighted_sum rest ≡ weighted_sum cs → weighted_sum (cond p (c ∷ rest) rest)
+    ≡ metres_of c.post *ℤ pos c.weight +ℤ weighted_sum cs
 sum_step true c rest cs e ih = ap (λ (s : ℤ). metres_of c.post *ℤ pos c.weight +ℤ s) ih
 sum_step false c rest cs e ih =
     let none : c.weight ≡ 0 = omega (arith, ltb-false _ _ e) in
-    ih ∙ zero_term (metres_of c.post) (weighted_sum cs) ∙ ap (λ n. metres_of c.post *ℤ pos n +ℤ weighted_sum cs) (sym none)
+    ih ∙ zero_term (metres_of c.post) (weighted_sum cs)
+    ∙ ap (λ n. metres_of c.post *ℤ pos n +ℤ weighted_sum cs) (sym none)
 
 sum_counted : (cs : List Corner) → weighted_sum (counted cs) ≡ weighted_sum cs
 sum_counted [] = refl
 sum_counted (c ∷ cs) = sum_step (nat_lt 0 c.weight) c (counted cs) cs refl (sum_counted cs)
 
-any_step : (p : Bool) (c : Corner) (rest cs : List Corner) → list_any (λ d. is_void d.post) rest ≡ list_any (λ d. nat_lt 0 d.weight && is_void d.post) cs
-    → list_any (λ d. is_void d.post) (cond p (c ∷ rest) rest) ≡ ((p && is_void c.post) || list_any (λ d. nat_lt 0 d.weight && is_void d.post) cs)
+any_step : (p : Bool) (c : Corner) (rest cs : List Corner)
+    → list_any (λ d. is_void d.post) rest ≡ list_any (λ d. nat_lt 0 d.weight && is_void d.post) cs
+    → list_any (λ d. is_void d.post) (cond p (c ∷ rest) rest)
+    ≡ ((p && is_void c.post) || list_any (λ d. nat_lt 0 d.weight && is_void d.post) cs)
 any_step true c rest cs ih = ap (λ b. is_void c.post || b) ih
 any_step false c rest cs ih = ih
 
-any_counted : (cs : List Corner) → list_any (λ d. is_void d.post) (counted cs) ≡ list_any (λ d. nat_lt 0 d.weight && is_void d.post) cs
+any_counted : (cs : List Corner) → list_any (λ d. is_void d.post) (counted cs)
+    ≡ list_any (λ d. nat_lt 0 d.weight && is_void d.post) cs
 any_counted [] = refl
 any_counted (c ∷ cs) = any_step (nat_lt 0 c.weight) c (counted cs) cs (any_counted cs)
 
 -- ---- the value, by its two cases
 
-pub value_heaviest : (cs : List Corner) (units : ℕ) (b : Bool) (p : Post) → b ≡ list_any (λ d. nat_lt 0 d.weight && is_void d.post) cs → b ≡ true → p ≡ heaviest (known (counted cs)) → p ≡ value_of cs units
+pub value_heaviest : (cs : List Corner) (units : ℕ) (b : Bool) (p : Post)
+    → b ≡ list_any (λ d. nat_lt 0 d.weight && is_void d.post) cs → b ≡ true
+    → p ≡ heaviest (known (counted cs)) → p ≡ value_of cs units
 unfolding value_of
 value_heaviest cs units b p e t h =
-    h ∙ ap (λ v. cond v (heaviest (known (counted cs))) (Metres (rounded (weighted_sum (counted cs)) units))) (sym (any_counted cs ∙ sym e ∙ t))
+    h ∙ ap (λ v. cond v (heaviest (known (counted cs))) (Metres (rounded (weighted_sum (counted cs)) units)))
+    (sym (any_counted cs ∙ sym e ∙ t))
 
-pub value_mean : (cs : List Corner) (units : ℕ) (b : Bool) (z : ℤ) → b ≡ list_any (λ d. nat_lt 0 d.weight && is_void d.post) cs → b ≡ false → z ≡ rounded (weighted_sum cs) units → Metres z ≡ value_of cs units
+pub value_mean : (cs : List Corner) (units : ℕ) (b : Bool) (z : ℤ)
+    → b ≡ list_any (λ d. nat_lt 0 d.weight && is_void d.post) cs → b ≡ false
+    → z ≡ rounded (weighted_sum cs) units → Metres z ≡ value_of cs units
 unfolding value_of
 value_mean cs units b z e f h =
     ap Metres (h ∙ ap (λ s. rounded s units) (sym (sum_counted cs)))
-    ∙ ap (λ v. cond v (heaviest (known (counted cs))) (Metres (rounded (weighted_sum (counted cs)) units))) (sym (any_counted cs ∙ sym e ∙ f))
+    ∙ ap (λ v. cond v (heaviest (known (counted cs))) (Metres (rounded (weighted_sum (counted cs)) units)))
+    (sym (any_counted cs ∙ sym e ∙ f))
 
 pub passed_height : (r : ℤ) → IsHeight r → to_z w16 (of_z w16 r) ≡ r
 passed_height r h = omega (arith, ints, h.above, h.below)

@@ -1,5 +1,5 @@
 -- The value at a point between four posts.
-use Rattle.std.specs.Prelude.{◌≡◌, ℕ, ◌+◌, ◌-◌, ◌*◌, ℤ, pos, ◌+ℤ◌, ◌*ℤ◌, neg_ℤ, ◌≤ℤ◌, ◌==◌, nat_lt, max, Bool, true, false, not, ◌&&◌, List, [], ◌∷◌, if◌then◌else◌, Option, Some, None}
+use Rattle.std.specs.Prelude.{ℕ, ◌-◌, ◌*◌, ℤ, pos, ◌+ℤ◌, ◌*ℤ◌, neg_ℤ, ◌≤ℤ◌, ◌==◌, nat_lt, max, Bool, true, false, not, List, [], ◌∷◌, if◌then◌else◌, Option, Some, None}
 use Rattle.std.specs.List.{list_any, filter, find}
 use Rattle.terrain_base.specs.declared.post.Post.{Post}
 use Rattle.terrain_base.specs.declared.post.Post.TheVariants.{Void, Metres}
@@ -15,8 +15,9 @@ abbrev pub metres_of : Post → ℤ
 metres_of Void = pos 0
 metres_of (Metres metres) = metres
 
--- the four posts, each with its bilinear weight at the point that lies east/east_unit of the way eastwards and
--- north/north_unit of the way northwards; the weights are in parts of the product of the units
+-- the four posts, each with its bilinear weight at the point that lies east/east_unit of the way
+-- eastwards and north/north_unit of the way northwards; the weights are in parts of the product of the
+-- units
 abbrev pub corners_of : Quad → ℕ → ℕ → ℕ → ℕ → List Corner
 corners_of quad east east_unit north north_unit =
     record { post = quad.sw; weight = (east_unit - east) * (north_unit - north) } ∷
@@ -66,4 +67,5 @@ value_of corners units =
 
 -- the value at the point between the four posts
 abbrev pub blend_of : Quad → ℕ → ℕ → ℕ → ℕ → Post
-blend_of quad east east_unit north north_unit = value_of (corners_of quad east east_unit north north_unit) (east_unit * north_unit)
+blend_of quad east east_unit north north_unit = value_of (corners_of quad east east_unit north north_unit)
+    (east_unit * north_unit)

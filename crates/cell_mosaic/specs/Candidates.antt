@@ -5,8 +5,14 @@ use Rattle.terrain_base.specs.declared.square.Square.{Square}
 use Rattle.tms_tree.specs.declared.place.Place.{Place}
 
 -- the square at these degrees, by the tests of both
-abbrev pub square_if : (lon lat : ℕ) (lon_fits lat_fits : Bool) → nat_lt lon 360 ≡ lon_fits → nat_lt lat 180 ≡ lat_fits → List Square
-square_if lon lat true true east north = record { lat = lat; lon = lon; lat_in_range = ltb-true lat 180 north; lon_in_range = ltb-true lon 360 east } ∷ []
+abbrev pub square_if : (lon lat : ℕ) (lon_fits lat_fits : Bool) → nat_lt lon 360 ≡ lon_fits
+    → nat_lt lat 180 ≡ lat_fits → List Square
+square_if lon lat true true east north = record {
+  lat = lat;
+  lon = lon;
+  lat_in_range = ltb-true lat 180 north;
+  lon_in_range = ltb-true lon 360 east;
+} ∷ []
 square_if lon lat true false east north = []
 square_if lon lat false true east north = []
 square_if lon lat false false east north = []
@@ -34,11 +40,12 @@ is_on_parallel place = (180 * place.q % place.d == 0) && nat_lt 0 (lat_at place)
 abbrev pub west_of : ℕ → ℕ
 west_of lon = (lon + 359) % 360
 
--- the square of the whole degrees, the one west of it, the one south of it, the one south-west of it: each where the
--- place lies on the border to it
+-- the square of the whole degrees, the one west of it, the one south of it, the one south-west of it:
+-- each where the place lies on the border to it
 unfoldable pub candidates_of : Place → List Square
 candidates_of place =
     squares_at (lon_at place) (lat_at place)
     ++ (if is_on_meridian place then squares_at (west_of (lon_at place)) (lat_at place) else [])
     ++ (if is_on_parallel place then squares_at (lon_at place) (lat_at place - 1) else [])
-    ++ (if (is_on_meridian place && is_on_parallel place) then squares_at (west_of (lon_at place)) (lat_at place - 1) else [])
+    ++ (if (is_on_meridian place && is_on_parallel place) then squares_at (west_of (lon_at place))
+    (lat_at place - 1) else [])

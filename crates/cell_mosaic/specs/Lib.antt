@@ -2,4 +2,9 @@ pub mod Blend
 pub mod Candidates
 pub mod Cells
 pub mod Fault
+pub mod Held
+pub mod HeldLaws
 pub mod Source
+pub mod Spot
+pub mod Value
+pub mod WholeCells

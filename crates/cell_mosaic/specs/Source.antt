@@ -2,13 +2,12 @@
 use Rattle.std.specs.Prelude.{◌≡◌, ◌≢◌, ℕ, ◌≤◌, Bool, List, Option, Some, None, Result, IsErrOf, IfErr, IfSome, IsSome}
 use Rattle.std.specs.FinMap.{get}
 use Rattle.terrain_base.specs.declared.square.Square.{Square}
-use Rattle.terrain_base.specs.declared.name.Key.{Key}
 use Rattle.terrain_base.specs.declared.name.Key.TheVariants.{Cell}
 use Rattle.terrain_base.specs.declared.store.Change.{Change}
 use Rattle.terrain_base.specs.Step.{Files}
 use Rattle.terrain_base.specs.Cause.{Rose}
 use Rattle.dted_cell.specs.declared.trouble.CellTrouble.{CellTrouble}
-use Rattle.dted_cell.specs.declared.trouble.CellTrouble.TheVariants.{Lost, Bad, Elsewhere, Changed}
+use Rattle.dted_cell.specs.declared.trouble.CellTrouble.TheVariants.{Changed}
 use Rattle.dted_cell.specs.Trouble.{name_of, Shows}
 use Rattle.cell_mosaic.specs.declared.fault.SourceFault.{SourceFault}
 use Rattle.cell_mosaic.specs.declared.fault.SourceFault.TheVariants as fault
@@ -31,8 +30,10 @@ pub record NamesCell (shapes : Shapes) (trouble : CellTrouble) : Type 0 where
   pub name : name_of trouble ≡ Cell square
   pub opened : IsOpenedAs shapes square trouble
 
--- what a trouble says is shown by the files, where the store tells them; it never comes where the cells are told
-pub record IsShown (shapes : Shapes) (told : Option Cells) (files : Option Files) (trouble : CellTrouble) : Type 0 where
+-- what a trouble says is shown by the files, where the store tells them; it never comes where the cells
+-- are told
+pub record IsShown (shapes : Shapes) (told : Option Cells) (files : Option Files) (trouble : CellTrouble) :
+    Type 0 where
   pub names : NamesCell shapes trouble
   pub shown : IfSome files (λ files. Shows files trouble)
   pub untold : told ≡ None
@@ -48,7 +49,9 @@ Shown shapes told files result = IfErr result (FaultShown shapes told files)
 
 -- What a call leaves of a source and of the store that it was lent: nothing that can be seen is changed, and
 -- cells that were told stay told and the same.
-pub record Keeps {P : Type 0} (cells : P → Option Files → Option Cells) (shapes : P → Shapes) (sure : P → Bool) (source source' : P) (files files' : Option Files) (log log' : Option (List Change)) : Type 0 where
+pub record Keeps {P : Type 0} (cells : P → Option Files → Option Cells) (shapes : P → Shapes)
+    (sure : P → Bool) (source source' : P) (files files' : Option Files) (log log' : Option (List Change)) :
+    Type 0 where
   pub shape : shapes source' ≡ shapes source
   pub certain : sure source' ≡ sure source
   pub stays : (told : Cells) → cells source files ≡ Some told → cells source' files ≡ Some told

@@ -1,6 +1,8 @@
 // The squares that have a place.
-ghost use Rattle.std.specs.Prelude.{◌≡◌, ◌+◌, ◌<◌, ◌≤◌, [], ◌++◌, length, slice_get, Some, if◌then◌else◌};
-ghost use Rattle.tms_tree.specs.Place.{IsPlace};
+ghost use Rattle.std.specs.Prelude.{◌≡◌, ◌+◌, ◌<◌, ◌≤◌, [], ◌++◌, length, slice_index_or, ◌&&◌, if◌then◌else◌};
+ghost use Rattle.std.specs.List.{All};
+ghost use Rattle.tms_tree.specs.Place.{IsPlace, point_of};
+ghost use Rattle.tms_tree.specs.Degrees.{Holds, square_rectangle};
 ghost use Rattle.cell_mosaic.specs.Candidates.{squares_at, candidates_of};
 
 use std::marker::Model;
@@ -15,14 +17,14 @@ pub struct SquareList {
 }
 
 impl Model for SquareList {
-    ghost use Rattle.std.specs.Prelude.{List, take, ◌≤◌};
+    ghost use Rattle.std.specs.Prelude.{List, take, length, ◌≡◌, ◌≤◌};
     ghost use Rattle.terrain_base.specs.declared.square.Square as square;
 
     ghost Value = { List square.Square };
 
     ghost view = { λ l. take l.count l.squares };
 
-    ghost invariant = { λ l. l.count ≤ 4 };
+    ghost invariant = { λ l. (l.count ≤ 4) × (length l.squares ≡ 4) };
 }
 
 impl SquareList {
@@ -61,10 +63,16 @@ impl SquareList {
     /// The square of this number, from 0.
     pub fn at(&self, k: u8) -> Square
         requires { k < length self.now }
-        ensures { slice_get self.now k ≡ Some result }
+        ensures { result ≡ slice_index_or self.now k result }
     {
         self.squares[k as usize]
     }
+}
+
+fn both(a: bool, b: bool) -> bool
+    ensures { result ≡ (a && b) }
+{
+    a && b
 }
 
 /// The squares whose closed square of one degree has the place, longitudes taken modulo 360 degrees: that
@@ -72,7 +80,8 @@ impl SquareList {
 /// where it lies on such a parallel the one south of it; where on both the one south-west of it.
 pub fn candidates(place: Place) -> SquareList
     requires { IsPlace place }
-    ensures { result ≡ candidates_of place }
+    ensures value { result ≡ candidates_of place }
+    ensures held { All (λ square. Holds (square_rectangle square) (point_of place)) result }
 {
     let (east, north) = (180 * place.p, 180 * place.q);
     let lon = (east / place.d % 360) as u16;
@@ -80,11 +89,36 @@ pub fn candidates(place: Place) -> SquareList
     let west = (lon + 359) % 360;
     let south = lat.saturating_sub(1);
     let on_meridian = east % place.d == 0;
-    let on_parallel = north % place.d == 0 && lat > 0;
+    let on_parallel = both(north % place.d == 0, lat > 0);
     let mut squares = SquareList::empty();
     squares.push_if(true, lon, lat);
     squares.push_if(on_meridian, west, lat);
     squares.push_if(on_parallel, lon, south);
-    squares.push_if(on_meridian && on_parallel, west, south);
+    squares.push_if(both(on_meridian, on_parallel), west, south);
     squares
+}
+
+#[cfg(test)]
+mod tests {
+    use super::*;
+    use std::test::Fail;
+
+    #[test]
+    fn poles_and_the_antimeridian_have_these_candidates(rt: HostRuntime) -> Result<(), Fail> {
+        let south = candidates(Place { p: 2, q: 0, d: 2 });
+        assert_eq!(rt; south.count(), 2);
+        assert_eq!(rt; south.at(0).text().as_slice(), b"s90e000".as_slice());
+        assert_eq!(rt; south.at(1).text().as_slice(), b"s90w001".as_slice());
+        let north = candidates(Place { p: 2, q: 2, d: 2 });
+        assert_eq!(rt; north.count(), 2);
+        assert_eq!(rt; north.at(0).text().as_slice(), b"n89e000".as_slice());
+        assert_eq!(rt; north.at(1).text().as_slice(), b"n89w001".as_slice());
+        let west = candidates(Place { p: 0, q: 1, d: 2 });
+        assert_eq!(rt; west.count(), 4);
+        assert_eq!(rt; west.at(0).text().as_slice(), b"n00w180".as_slice());
+        assert_eq!(rt; west.at(1).text().as_slice(), b"n00e179".as_slice());
+        assert_eq!(rt; west.at(2).text().as_slice(), b"s01w180".as_slice());
+        assert_eq!(rt; west.at(3).text().as_slice(), b"s01e179".as_slice());
+        Ok(())
+    }
 }

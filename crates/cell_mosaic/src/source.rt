@@ -25,10 +25,10 @@ pub trait PostSource {
     fn shape(&self, square: Square) -> Option<CellLevel>
         ensures { result ≡ map.get (shapes self.now) square };
 
-    /// The post of the square's cell in column `col` from the west and row `row` from the south. `Failed` comes
-    /// only where the lent store failed, `Cell` only where the store's files show it and never where the cells
-    /// are told. Whatever it answers, nothing that the store tells is changed, the source's levels stay, and
-    /// cells that were told stay told and the same.
+    /// The post of the square's cell in column `col` from the west and row `row` from the south. `Failed`
+    /// comes only where the lent store failed, `Cell` only where the store's files show it and never
+    /// where the cells are told. Whatever it answers, nothing that the store tells is changed, the
+    /// source's levels stay, and cells that were told stay told and the same.
     fn post<S: Store>(
         &mut self,
         store: &mut S,
@@ -37,8 +37,10 @@ pub trait PostSource {
         row: u16,
     ) -> Result<Post, SourceFault>
         requires known { IsSome (map.get (shapes self.old) square) }
-        requires within { IfSome (map.get (shapes self.old) square) (λ level. (col < columns_of square level) × (row < rows_of level)) }
-        ensures post { (told : Cells) → cells self.old (S.holds store.old) ≡ Some told → IfOk result (λ post. post ≡ post_of told square col row) }
+        requires within { IfSome (map.get (shapes self.old) square) (λ level. (col < columns_of square level)
+            × (row < rows_of level)) }
+        ensures post { (told : Cells) → cells self.old (S.holds store.old) ≡ Some told
+            → IfOk result (λ post. post ≡ post_of told square col row) }
         ensures height { IfOk result IsPost }
         ensures sure { IsTrue (sure self.old) → IsOk result }
         ensures cause { HasCause (S.faults store.old) (S.faults store.new) result }
@@ -46,8 +48,10 @@ pub trait PostSource {
         ensures keeps { Keeps cells shapes sure self.old self.new (S.holds store.old) (S.holds store.new) (S.log store.old) (S.log store.new) };
 
     /// The told cells are cells of the squares and levels of the shapes.
-    ghost agree: { (source : Self) (files : Option Files) (told : Cells) → cells source files ≡ Some told → AreCells told (shapes source) };
+    ghost agree: { (source : Self) (files : Option Files) (told : Cells) → cells source files ≡ Some told
+        → AreCells told (shapes source) };
 
     /// They depend on what the store holds under the names of cells alone.
-    ghost by_names: { (source : Self) (files files' : Option Files) → AlikeCells files files' → cells source files' ≡ cells source files };
+    ghost by_names: { (source : Self) (files files' : Option Files) → AlikeCells files files'
+        → cells source files' ≡ cells source files };
 }

@@ -6,5 +6,6 @@ use Rattle.cell_mosaic.proofs.corner.heaviest_post.Goals as goal
 
 pub returns : goal.returns
 returns c =
-    ap (λ (corner : Corner). corner.post) (sym (at_drop_all (best_of c.loop-corner.best) c.args.corners.now c.loop-corner.corner-index (omega arith)) ∙ c.loop-corner.invariant)
+    ap (λ (corner : Corner). corner.post) (sym (at_drop_all (best_of c.loop-corner.best) c.args.corners.now
+    c.loop-corner.corner-index (omega arith)) ∙ c.loop-corner.invariant)
     ∙ heaviest_is c.args.corners.now

@@ -1,0 +1,13 @@
+use Rattle.std.proofs.Common.{Some, option_map, sym, ap, ◌∙◌}
+use Rattle.dted_cell.specs.Cell.{level_in}
+use Rattle.cell_mosaic.proofs.Entries.{get_levels}
+use Rattle.cell_mosaic.proofs.whole.WholeCellsPostSource.shape.Goals as goal
+
+pub returns-in-Some : goal.returns-in-Some
+returns-in-Some c =
+    ap Some (c.level.ensures ∙ ap level_in c.view.ensures) ∙ ap (option_map level_in) c.in-Some.ensures.value
+    ∙ sym (get_levels c.args.self.now.cells.entries c.args.square)
+
+pub returns-in-None : goal.returns-in-None
+returns-in-None c = ap (option_map level_in) c.in-None.ensures.value
+    ∙ sym (get_levels c.args.self.now.cells.entries c.args.square)
