@@ -1,10 +1,10 @@
 -- Extensions, one after the other.
-use Rattle.std.proofs.Common.{◌≡◌, ℕ, zero, suc, ◌+◌, ◌-◌, ◌<◌, ◌≤◌, Bool, true, false, cond, nat_lt, List, [], ◌∷◌, length, Option, Some, None, is_some, inl, inr, refl, sym, ap, ◌∙◌, arith}
+use Rattle.std.proofs.Common.{◌≡◌, ℕ, zero, suc, ◌+◌, ◌-◌, ◌<◌, ◌≤◌, true, false, cond, nat_lt, List, [], ◌∷◌, length, Option, Some, None, is_some, inl, inr, refl, sym, ap, ◌∙◌, arith}
 use Rattle.std.specs.Option.{option_or}
 use Rattle.std.proofs.lemmas.Bool.{cases_lt}
 use Rattle.std.proofs.lemmas.Bool.Decides.{nat_tests}
 use Rattle.mesh_codec.specs.declared.refusal.TileRefusal.TheVariants.{ExtensionTruncated}
-use Rattle.mesh_codec.specs.Extension.{ExtensionData, extension_end, extension_at, some_extensions, extensions_from}
+use Rattle.mesh_codec.specs.Extension.{extension_end, extension_at, some_extensions, extensions_from}
 use Rattle.mesh_codec.specs.Refusal.{◌when◌, first_of, some_extension_conditions, extension_conditions}
 
 pub end_beyond : (bytes : List ℕ) (at : ℕ) → at + 5 ≤ extension_end bytes at
@@ -94,15 +94,3 @@ no_extensions (suc n) bytes at h = rw (not_below at (length bytes) h) refl
 pub extensions_none : (bytes : List ℕ) (at : ℕ) → length bytes ≤ at → extensions_from bytes at ≡ []
 unfolding extensions_from
 extensions_none bytes at h = no_extensions (length bytes) bytes at h
-
-few_extensions : (n : ℕ) (bytes : List ℕ) (at : ℕ) → length (some_extensions n bytes at) ≤ n
-few_extensions zero bytes at = omega arith
-few_extensions (suc n) bytes at = of_test (nat_lt at (length bytes)) (extension_at bytes at) (some_extensions n bytes (extension_end bytes at)) n (few_extensions n bytes (extension_end bytes at))
-  where
-    of_test : (b : Bool) (x : ExtensionData) (xs : List ExtensionData) (n : ℕ) → length xs ≤ n → length (cond b (x ∷ xs) []) ≤ suc n
-    of_test true x xs n h = omega arith
-    of_test false x xs n h = omega arith
-
-pub extensions_few : (bytes : List ℕ) (at : ℕ) → length (extensions_from bytes at) ≤ length bytes
-unfolding extensions_from
-extensions_few bytes at = few_extensions (length bytes) bytes at

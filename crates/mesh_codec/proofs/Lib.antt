@@ -1,3 +1,4 @@
+pub mod ExtensionCounts
 pub mod Decoding
 pub mod Edges
 pub mod ExtensionLaws

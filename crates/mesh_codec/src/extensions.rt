@@ -1,5 +1,5 @@
 // The extensions of a tile, read where they stand.
-ghost use Rattle.std.specs.Prelude.{◌≡◌, ◌+◌, ◌^◌, ◌<◌, ◌≤◌, length, slice_index, slice_range};
+ghost use Rattle.std.specs.Prelude.{◌≡◌, ◌+◌, ◌<◌, ◌≤◌, ◌^◌, length, slice_index, slice_range};
 ghost use Rattle.std.specs.Iterator.{YieldsFirstBy, item_count};
 ghost use Rattle.mesh_codec.specs.Good.{IsTile};
 ghost use Rattle.mesh_codec.specs.Tile.{extension_list};
@@ -52,8 +52,8 @@ impl<'a> Extensions<'a> {
     /// The extensions of a tile.
     pub(crate) fn of(bytes: &'a [u8]) -> Extensions<'a>
         requires { IsTile bytes.now }
-        ensures extensions { result ≡ extension_list bytes.now }
-        ensures few { length result < 2 ^ 64 }
+        ensures list { result ≡ extension_list bytes.now }
+        ensures few { length result < 2 ^ 63 }
     {
         Extensions {
             bytes,

@@ -110,8 +110,8 @@ impl<'a> TileView<'a> {
 
     /// The extensions.
     pub fn extensions(&self) -> Extensions<'a>
-        ensures extensions { result ≡ extension_list self.now }
-        ensures few { length result < 2 ^ 64 }
+        ensures list { result ≡ extension_list self.now }
+        ensures few { length result < 2 ^ 63 }
     {
         Extensions::of(self.bytes)
     }
