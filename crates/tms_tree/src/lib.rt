@@ -1,5 +1,4 @@
-//! The tree of tiles (TMS, global-geodetic profile): the places of its grid points, and which tiles touch
-//! a square.
+//! The tree of tiles (TMS, global-geodetic profile): the places of its grid points, and which tiles touch a square.
 #![tactic(auto)]
 
 mod grid_point;

@@ -14,5 +14,4 @@ returns-then-crosses-clause-shared_point c =
 pub returns-else-crosses-clause-shared_point : goal.returns-else-crosses-clause-shared_point
 unfolding overlaps_of
 returns-else-crosses-clause-shared_point c =
-    overlaps_at c.args.tile c.args.square c.crosses.result
-    (c.if-crosses.false ∙ sym (and_left _ _ (sym c.crosses.ensures ∙ c.if-crosses.false)))
+    overlaps_at c.args.tile c.args.square c.crosses.result (c.if-crosses.false ∙ sym (and_left _ _ (sym c.crosses.ensures ∙ c.if-crosses.false)))
