@@ -9,8 +9,8 @@ the same command line, it times that too, run by run in turn, and prints the rat
 """
 
 import array
+import os
 import pathlib
-import resource
 import subprocess
 import sys
 import tempfile
@@ -49,11 +49,13 @@ def write_cell(path, level, interval, lines):
 
 
 def timed(program, path):
-    """Seconds of one run, and its output."""
+    """Seconds of one run, its output, and its greatest memory in megabytes."""
     start = time.perf_counter()
     process = subprocess.Popen([str(program), ".", "cell", str(path)], stdout=subprocess.PIPE)
-    out, _ = process.communicate()
-    return time.perf_counter() - start, out
+    out = process.stdout.read()
+    _, status, usage = os.wait4(process.pid, 0)
+    process.returncode = os.waitstatus_to_exitcode(status)
+    return time.perf_counter() - start, out, usage.ru_maxrss / 1024
 
 
 def main():
@@ -68,18 +70,16 @@ def main():
             size = path.stat().st_size / 1e6
             ours, theirs = [], []
             for _ in range(RUNS):
-                seconds, said = timed(program, path)
+                seconds, said, memory = timed(program, path)
                 ours.append(seconds)
                 if peer:
-                    seconds, other = timed(peer, path)
+                    seconds, other, _ = timed(peer, path)
                     theirs.append(seconds)
                     if other != said:
                         sys.exit(f"the peer prints {other!r} where this prints {said!r}")
-            print(f"level {level}: {min(ours):.3f} s, {size / min(ours):.0f} MB/s", end="")
+            print(f"level {level}: {min(ours):.3f} s, {size / min(ours):.0f} MB/s, {memory:.1f} MB of memory", end="")
             print(f", peer {min(theirs):.3f} s, ratio {min(ours) / min(theirs):.2f}" if peer else "")
             print(f"  {said.decode().strip()}")
-    most = resource.getrusage(resource.RUSAGE_CHILDREN).ru_maxrss / 1024
-    print(f"greatest memory of a run: {most:.1f} MB")
 
 
 if __name__ == "__main__":
