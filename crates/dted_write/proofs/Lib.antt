@@ -1,0 +1,7 @@
+pub mod Headers
+pub mod Knots
+pub mod Labels
+pub mod Law
+pub mod Records
+pub mod Texts
+pub mod Written
