@@ -1,5 +1,5 @@
 // The heights of a tile's grid points.
-ghost use Rattle.std.specs.Prelude.{◌≡◌, ◌≤◌, ◌*◌, ◌+◌, IfOk, pos, replicate, slice_set};
+ghost use Rattle.std.specs.Prelude.{◌≡◌, ◌≤◌, ◌*◌, ◌+◌, IfOk, pos, replicate, slice_set, length};
 ghost use Rattle.terrain_base.specs.Grid.{height_in, spot, line_of, tolerance_of};
 ghost use Rattle.terrain_base.specs.Height.{IsHeight};
 
@@ -50,7 +50,8 @@ impl Grid {
         requires column { i ≤ 66 }
         requires row { j ≤ 66 }
         requires height { IsHeight metres }
-        ensures { self.new ≡ slice_set self.old (spot i j) metres }
+        ensures value { self.new ≡ slice_set self.old (spot i j) metres }
+        ensures full { length self.new ≡ 4489 }
     {
         self.heights[67 * j as usize + i as usize] = metres;
     }
