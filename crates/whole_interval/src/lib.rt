@@ -4,7 +4,7 @@
 mod interval;
 mod sine_cosine;
 
-pub use interval::{Interval, add, div_pos, div_whole, mul, sqrt, sub};
+pub use interval::{Interval, ONE, add, div_pos, div_whole, mul, sqrt, sub};
 pub use sine_cosine::{SineCosine, half_turn};
 
 #[cfg(test)]
