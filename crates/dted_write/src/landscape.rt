@@ -3,7 +3,8 @@ ghost use Rattle.std.specs.Prelude.{◌≡◌, ◌≢◌, ◌+◌, ◌-◌, ◌*
 ghost use Rattle.terrain_base.specs.Level.{lat_step_of, lon_step_of, rows_of, columns_of};
 ghost use Rattle.dted_write.specs.Post.{IsPost};
 ghost use Rattle.dted_write.specs.Grid.{post_at};
-ghost use Rattle.dted_write.specs.Cell.{cell_text};
+ghost use Rattle.dted_cell.specs.Cell.{IsCell};
+ghost use Rattle.dted_write.specs.Cell.{cell_text, columns_from};
 ghost use Rattle.dted_write.specs.Landscape.{IsFilled};
 ghost use Rattle.dted_write.specs.Generate.{
   knot_height,
@@ -138,14 +139,17 @@ fn landscape(
 }
 
 /// A cell of a made-up landscape, which the number chooses: knots 450 arc-seconds apart, 0 to 2000 metres
-/// high, bilinear between them. An odd number has voids inside one knot square.
+/// high, bilinear between them. An odd number has voids inside one knot square. It is read again as a cell
+/// of these posts.
 pub fn generate(
     alloc: Global,
     number: u64,
     square: Square,
     level: CellLevel,
 ) -> Result<Vec<u8>, NoMemory>
-    ensures { IfOk result (λ text. text.items ≡ cell_text square level (generated_post number square level)) }
+    ensures text { IfOk result (λ text. text.items ≡ cell_text square level (generated_post number square level)) }
+    ensures cell { IfOk result (λ text. IsCell text.items square level
+        (columns_from square level (generated_post number square level))) }
 {
     let posts = landscape(alloc, number, square, level)?;
     let text = write_cell(alloc, &posts)?;

@@ -1,8 +1,11 @@
 //! The worked examples of the command line, over libraries and sinks in memory.
 use crate::{Status, run};
+use dted_write::generate;
 use std::alloc::{AllocError, Global};
 use std::test::Fail as Stopped;
-use terrain_base::{Fail, Library, MemLibrary, MemSink, SureLibrary, SureSink, SureStore, Work};
+use terrain_base::{
+    CellLevel, Fail, Library, MemLibrary, MemSink, Square, SureLibrary, SureSink, SureStore, Work,
+};
 
 // A level 0 cell: what its header says, how many meridians it has, and the word of all posts but one.
 #[derive(Clone, Copy)]
@@ -166,6 +169,22 @@ fn cells_print_their_lines(rt: HostRuntime) -> Result<(), Stopped> {
         assert_eq!(rt; out.taken(), line.as_bytes());
         assert_eq!(rt; status, Status::Done);
     }
+    Ok(())
+}
+
+// A level 1 cell of a generated landscape, with the voids of an odd number.
+#[test]
+fn generated_cell_prints_its_line(rt: HostRuntime) -> Result<(), Stopped> {
+    let alloc = rt.alloc();
+    let square = Square::of(187, 136).expect(&rt, "n46e007");
+    let bytes = generate(alloc, 9, square, CellLevel::One).expect(&rt, "memory");
+    let mut out = SureSink::new(alloc);
+    let status = cell(alloc, &bytes, &mut out)?;
+    assert_eq!(rt;
+        out.taken(),
+        b"n46e007 level 1 columns 1201 rows 1201 min 16 max 1978 voids 22201\n".as_slice()
+    );
+    assert_eq!(rt; status, Status::Done);
     Ok(())
 }
 
