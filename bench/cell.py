@@ -9,15 +9,11 @@ the same command line, it times that too, run by run in turn, and prints the rat
 """
 
 import array
-import os
 import pathlib
-import subprocess
 import sys
 import tempfile
-import time
 
-ROOT = pathlib.Path(__file__).resolve().parent.parent
-RUNS = 5
+import timing
 
 
 def header(level, interval, columns, rows):
@@ -48,38 +44,12 @@ def write_cell(path, level, interval, lines):
             file.write(record(column, lines))
 
 
-def timed(program, path):
-    """Seconds of one run, its output, and its greatest memory in megabytes."""
-    start = time.perf_counter()
-    process = subprocess.Popen([str(program), ".", "cell", str(path)], stdout=subprocess.PIPE)
-    out = process.stdout.read()
-    _, status, usage = os.wait4(process.pid, 0)
-    process.returncode = os.waitstatus_to_exitcode(status)
-    return time.perf_counter() - start, out, usage.ru_maxrss / 1024
-
-
 def main():
-    program = ROOT / "crates/terrain_tool/out/terrain_tool"
-    if not program.exists():
-        subprocess.run([str(ROOT / "terrain")], stdout=subprocess.DEVNULL, check=False)
-    peer = sys.argv[1] if len(sys.argv) > 1 else None
     with tempfile.TemporaryDirectory() as folder:
         for level, interval, lines in ((1, 30, 1201), (2, 10, 3601)):
             path = pathlib.Path(folder) / f"cell.dt{level}"
             write_cell(path, level, interval, lines)
-            size = path.stat().st_size / 1e6
-            ours, theirs = [], []
-            for _ in range(RUNS):
-                seconds, said, memory = timed(program, path)
-                ours.append(seconds)
-                if peer:
-                    seconds, other, _ = timed(peer, path)
-                    theirs.append(seconds)
-                    if other != said:
-                        sys.exit(f"the peer prints {other!r} where this prints {said!r}")
-            print(f"level {level}: {min(ours):.3f} s, {size / min(ours):.0f} MB/s, {memory:.1f} MB of memory", end="")
-            print(f", peer {min(theirs):.3f} s, ratio {min(ours) / min(theirs):.2f}" if peer else "")
-            print(f"  {said.decode().strip()}")
+            timing.compare(f"level {level}", "cell", path, sys.argv[1:])
 
 
 if __name__ == "__main__":

@@ -1,0 +1,48 @@
+"""Times a command of the program on a file, and beside a peer with the same command line."""
+
+import os
+import pathlib
+import subprocess
+import sys
+import time
+
+ROOT = pathlib.Path(__file__).resolve().parent.parent
+RUNS = 5
+
+
+def built():
+    """The program, which is built where it is not there yet."""
+    program = ROOT / "crates/terrain_tool/out/terrain_tool"
+    if not program.exists():
+        subprocess.run([str(ROOT / "terrain")], stdout=subprocess.DEVNULL, check=False)
+    return program
+
+
+def timed(words):
+    """Seconds of one run, its output, and its greatest memory in megabytes."""
+    start = time.perf_counter()
+    process = subprocess.Popen([str(word) for word in words], stdout=subprocess.PIPE)
+    out = process.stdout.read()
+    _, status, usage = os.wait4(process.pid, 0)
+    process.returncode = os.waitstatus_to_exitcode(status)
+    return time.perf_counter() - start, out, usage.ru_maxrss / 1024
+
+
+def compare(title, command, path, peers):
+    """Prints the best of the runs of a command on a file, and of the first peer's, run by run in turn."""
+    program = built()
+    size = path.stat().st_size / 1e6
+    ours, theirs = [], []
+    for _ in range(RUNS):
+        seconds, said, memory = timed([program, ".", command, path])
+        ours.append(seconds)
+        for peer in peers[:1]:
+            seconds, other, _ = timed([peer, ".", command, path])
+            theirs.append(seconds)
+            if other.splitlines()[:1] != said.splitlines()[:1]:
+                sys.exit(f"the peer prints {other!r} where this prints {said!r}")
+    line = f"{title}: {min(ours):.3f} s, {size / min(ours):.0f} MB/s, {memory:.1f} MB of memory"
+    if theirs:
+        line += f", peer {min(theirs):.3f} s, ratio {min(ours) / min(theirs):.2f}"
+    print(line)
+    print(f"  {said.decode().strip()}")
