@@ -49,11 +49,11 @@ number_text (suc size) (a ∷ l) h b =
     ∙ ap (λ x. x ∷ bytes_low_first 1 size (a + 256 * m) ++ drop size l) (sym first)
     ∙ ap (λ n. bytes_low_first 0 (suc size) (a + 256 * n) ++ drop size l) (sym (little_from-cons 0 size a l))
 
--- no other word has the difference of these codes
 magnitude : ℤ → ℕ
 magnitude (pos n) = n
 magnitude (negsuc n) = n
 
+-- no other word has the difference of these codes
 zigzag_only : (before code word : ℕ) → pos code ≡ pos before +ℤ difference word → word ≡ zigzag before code
 unfolding magnitude
 zigzag_only before code word e = elim (cases_lt (word % 2) 1) [
