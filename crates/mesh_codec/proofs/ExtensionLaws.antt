@@ -98,6 +98,10 @@ end_by : (bytes : List ℕ) (at size : ℕ) → number_at 4 bytes (at + 1) ≡ s
 unfolding extension_end
 end_by bytes at size e = ap (λ n. at + 5 + n) e
 
+-- an extension is known by its parts
+same_parts : (x : ExtensionData) (id : ℕ) (bytes : List ℕ) → id ≡ x.id → bytes ≡ x.bytes → x ≡ record { id = id; bytes = bytes }
+same_parts x id bytes same_id same_bytes = rw (same_id, same_bytes) refl
+
 only_from : (extensions : List ExtensionData) (n : ℕ) (bytes : List ℕ) (at : ℕ) → length bytes - at ≤ n → drop at bytes ≡ flat_map extension_text extensions → All IsExtension extensions → Only n bytes at extensions
 only_from [] zero bytes at l e all = record { same = refl; none = refl }
 only_from [] (suc n) bytes at l e all =
@@ -122,7 +126,7 @@ only_from (x ∷ xs) (suc n) bytes at l e all =
     let width : extension_end bytes at - (at + 5) ≡ size = omega (arith, end) in
     let body : slice_range bytes (at + 5) (extension_end bytes at) ≡ x.bytes = ap (λ n. take n (drop (at + 5) bytes)) width ∙ ap (take size) third ∙ take_at x.bytes rest size refl in
     let later = only_from xs n bytes (extension_end bytes at) (omega (arith, end)) fourth (All-tail IsExtension x xs all) in
-    let whole : x ≡ extension_at bytes at = sym (ap (λ i. record { id = i; bytes = x.bytes }) first) ∙ ap (λ b. record { id = slice_index bytes at; bytes = b }) (sym body) in
+    let whole : x ≡ extension_at bytes at = same_parts x (slice_index bytes at) (slice_range bytes (at + 5) (extension_end bytes at)) first body in
     let inside : extension_end bytes at ≤ length bytes = omega (arith, end, total, length-append x.bytes rest, length-append (little_bytes 4 size ++ x.bytes) rest, length-append (little_bytes 4 size) x.bytes) in
     record {
       same = ap (λ y. y ∷ xs) whole ∙ ap (λ l. extension_at bytes at ∷ l) later.same ∙ ap (λ b. cond b (extension_at bytes at ∷ some_extensions n bytes (extension_end bytes at)) []) (sym (below at (length bytes) early));

@@ -9,10 +9,12 @@ pub mod HighWaters
 pub mod Lists
 pub mod Marks
 pub mod Numbers
+pub mod OneText
 pub mod Places
 pub mod Rebuilding
 pub mod Runs
 pub mod Sounds
+pub mod Spellings
 pub mod TextDecodes
 pub mod TextLaws
 pub mod Texts

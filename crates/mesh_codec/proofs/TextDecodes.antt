@@ -1,7 +1,7 @@
 -- The spelling of a header and a mesh, part by part.
-use Rattle.std.proofs.Common.{◌≡◌, ◌≢◌, ℕ, ◌+◌, ◌-◌, ◌*◌, ◌^◌, ◌<◌, ◌≤◌, true, false, nat_lt, List, [], ◌∷◌, ◌++◌, length, map, drop, All, inl, inr, refl, sym, ap, ◌∙◌, arith, append_assoc}
+use Rattle.std.proofs.Common.{◌≡◌, ◌≢◌, ℕ, ◌+◌, ◌-◌, ◌*◌, ◌^◌, ◌<◌, ◌≤◌, true, false, nat_lt, List, [], ◌∷◌, ◌++◌, length, map, drop, slice_index, All, inl, inr, refl, sym, ap, ◌∙◌, subst, arith, append_assoc}
 use Rattle.std.specs.List.{flat_map}
-use Rattle.std.proofs.lemmas.List.{length-append, length-drop, length-map, append-nil}
+use Rattle.std.proofs.lemmas.List.{length-append, length-drop, length-map, append-nil, get_or-drop, get_or-replicate, get_or_append_left}
 use Rattle.std.proofs.lemmas.List.Elements.{All-nil, All-map, All-weaker}
 use Rattle.std.proofs.lemmas.Bool.{cases_lt}
 use Rattle.std.proofs.lemmas.Bool.Decides.{nat_tests}
@@ -18,6 +18,7 @@ use Rattle.mesh_codec.specs.Difference.{HasCodes}
 use Rattle.mesh_codec.specs.HighWater.{HasIndexes, HasEntries}
 use Rattle.mesh_codec.specs.Extension.{IsExtension}
 use Rattle.mesh_codec.specs.Layout.{vertices_in, triangles_in, array_at, list_end, west_at, south_at, east_at, north_at, extensions_at, edge_at}
+use Rattle.mesh_codec.specs.Padding.{HasZeroPadding}
 use Rattle.mesh_codec.specs.Tile.{point_at, header_in, Decodes}
 use Rattle.mesh_codec.proofs.Numbers.{number_here}
 use Rattle.mesh_codec.proofs.Marks.{within_mark}
@@ -90,6 +91,10 @@ width_holds vertices few apart = elim (cases_lt 65536 vertices) [
   | inl many ↦ let wide : nat_lt 65536 vertices ≡ true = grind (arith, nat_tests) in rw wide (omega arith)
   | inr less ↦ let narrow : nat_lt 65536 vertices ≡ false = grind (arith, nat_tests) in rw narrow (omega arith)
 ]
+
+padding_zero : (vertices place : ℕ) → place < index_data_at vertices - (92 + 6 * vertices) → slice_index (padding_text vertices) place ≡ 0
+unfolding padding_text
+padding_zero vertices place h = get_or-replicate (index_data_at vertices - (92 + 6 * vertices)) place 0 0 h
 
 -- ---- the whole
 module _ (header : Header) (mesh : Mesh) (is_header : IsHeader header) (is_mesh : IsMesh mesh) (encodable : IsEncodable mesh) where
@@ -252,6 +257,17 @@ module _ (header : Header) (mesh : Mesh) (is_header : IsHeader header) (is_mesh 
     entries_at East = east.1
     entries_at North = north.1
 
+    zeros : HasZeroPadding text
+    zeros place from to =
+        let size = index_data_at vertices - (92 + 6 * vertices) in
+        let start : 92 + 6 * vertices ≤ place = omega (arith, from, counted) in
+        let end : place < index_data_at vertices = let P : ℕ → Type 0 = λ n. place < index_data_at n in subst P counted to in
+        let depth = place - (92 + 6 * vertices) in
+        let early : depth < size = omega (arith, start, end) in
+        let whole : 92 + 6 * vertices + depth ≡ place = omega (arith, start) in
+        sym (ap (slice_index text) whole) ∙ sym (get_or-drop (92 + 6 * vertices) text depth 0) ∙ ap (λ l. slice_index l depth) d_padding
+        ∙ get_or_append_left (padding_text vertices) from_triangles 0 depth (omega (arith, early, padding_length vertices)) ∙ padding_zero vertices depth early
+
     decodes : Decodes text header mesh []
     decodes = record {
       header_is = back.0;
@@ -270,3 +286,7 @@ module _ (header : Header) (mesh : Mesh) (is_header : IsHeader header) (is_mesh 
 pub text_decodes : (header : Header) (mesh : Mesh) → IsHeader header → IsMesh mesh → IsEncodable mesh → Decodes (tile_text header mesh) header mesh []
 text_decodes header mesh is_header is_mesh encodable =
     decodes header mesh is_header is_mesh encodable (tile_text header mesh) (parts header mesh is_header is_mesh encodable)
+
+pub text_padding : (header : Header) (mesh : Mesh) → IsHeader header → IsMesh mesh → IsEncodable mesh → HasZeroPadding (tile_text header mesh)
+text_padding header mesh is_header is_mesh encodable =
+    zeros header mesh is_header is_mesh encodable (tile_text header mesh) (parts header mesh is_header is_mesh encodable)

@@ -1,5 +1,5 @@
 -- The spelling of a header and a mesh decodes to them.
-use Rattle.std.proofs.Common.{◌≡◌, ℕ, zero, suc, ℤ, pos, negsuc, ◌+ℤ◌, ◌+◌, ◌-◌, ◌*◌, ◌/◌, ◌%◌, ◌^◌, ◌<◌, ◌≤◌, ◌==◌, Bool, true, false, cond, nat_le, nat_lt, List, [], ◌∷◌, ◌++◌, length, drop, get_or, slice_index, All, inl, inr, refl, sym, ap, ◌∙◌, arith, append_assoc}
+use Rattle.std.proofs.Common.{◌≡◌, ℕ, zero, suc, pos, negsuc, ◌+ℤ◌, ◌+◌, ◌-◌, ◌*◌, ◌/◌, ◌%◌, ◌^◌, ◌<◌, ◌≤◌, ◌==◌, Bool, true, false, cond, nat_le, nat_lt, List, [], ◌∷◌, ◌++◌, length, drop, get_or, slice_index, All, inl, inr, refl, sym, ap, ◌∙◌, arith, append_assoc}
 use Rattle.std.specs.List.{flat_map}
 use Rattle.std.proofs.lemmas.List.{drop-drop, drop_at, length-append}
 use Rattle.std.proofs.lemmas.List.Elements.{All-head, All-tail}
@@ -74,7 +74,7 @@ length-indexes_text width (index ∷ indexes) mark =
     omega (arith, length-append (little_bytes width (mark - index)) (indexes_text width (mark_after mark index) indexes), length-bytes_low_first 0 width (mark - index), length-indexes_text width indexes (mark_after mark index))
 
 -- the mark from the second place on
-mark_front : (width : ℕ) (text : List ℕ) (at k : ℕ) → mark_at width text at (suc k) ≡ cond (entry_at width text at 0 == 0) 1 0 + mark_at width text (at + width) k
+pub mark_front : (width : ℕ) (text : List ℕ) (at k : ℕ) → mark_at width text at (suc k) ≡ cond (entry_at width text at 0 == 0) 1 0 + mark_at width text (at + width) k
 mark_front width text at zero =
     ap (mark_at width text at) one ∙ mark_next width text at 0 ∙ rw (mark_none width text at, mark_none width text (at + width)) (of_test (entry_at width text at 0 == 0))
   where

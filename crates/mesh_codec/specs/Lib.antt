@@ -5,6 +5,7 @@ pub mod Difference
 pub mod HighWater
 pub mod Extension
 pub mod Layout
+pub mod Padding
 pub mod Refusal
 pub mod Tile
 pub mod Good

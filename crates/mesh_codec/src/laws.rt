@@ -6,6 +6,7 @@ ghost use Rattle.mesh_codec.specs.Number.{AreBytes};
 ghost use Rattle.mesh_codec.specs.Mesh.{Mesh, IsMesh, IsEncodable};
 ghost use Rattle.mesh_codec.specs.Text.{IsHeader, tile_text};
 ghost use Rattle.mesh_codec.specs.Extension.{ExtensionData};
+ghost use Rattle.mesh_codec.specs.Padding.{HasZeroPadding};
 ghost use Rattle.mesh_codec.specs.Refusal.{first_of, IsFirst, conditions_of, is_gzip, tile_refusal_of};
 ghost use Rattle.mesh_codec.specs.Tile.{Decodes, header_in, mesh_in, extension_list};
 
@@ -31,4 +32,11 @@ pub fn first_refusal()
 /// The spelling of a header and a mesh decodes to them, without an extension.
 pub fn text_decodes()
     ensures { (header : Header) (mesh : Mesh) → IsHeader header → IsMesh mesh → IsEncodable mesh → Decodes (tile_text header mesh) header mesh [] }
+{}
+
+/// The spelling of a header and a mesh has padding of zeros, and no other bytes with padding of zeros and without
+/// an extension decode to them.
+pub fn one_text()
+    ensures zeros { (header : Header) (mesh : Mesh) → IsHeader header → IsMesh mesh → IsEncodable mesh → HasZeroPadding (tile_text header mesh) }
+    ensures only { (bytes : List ℕ) (header : Header) (mesh : Mesh) → AreBytes bytes → Decodes bytes header mesh [] → HasZeroPadding bytes → bytes ≡ tile_text header mesh }
 {}
