@@ -1,0 +1,5 @@
+pub mod Enclosing
+pub mod Ends
+pub mod Radii
+pub mod Sizes
+pub mod Turns
