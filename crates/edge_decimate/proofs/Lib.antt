@@ -1,0 +1,5 @@
+pub mod Halves
+pub mod Bits
+pub mod Neighbours
+pub mod Rising
+pub mod WholeEdges

@@ -1,0 +1,4 @@
+pub mod Straight
+pub mod KeptPoints
+pub mod KeptLine
+pub mod Laws
