@@ -1,0 +1,64 @@
+-- Squares that ascend, one more at the end.
+use Rattle.std.specs.Prelude.{◌≡◌, suc, ◌-◌, ◌↔◌, Bool, true, List, [], ◌∷◌, ◌++◌, Some, None, IsTrue, length, slice_get}
+use Rattle.std.specs.declared.cmp.Ordering.{Ordering}
+use Rattle.std.specs.declared.cmp.Ordering.TheVariants.{Less}
+use Rattle.std.specs.Ordering.{is_lt}
+use Rattle.std.specs.List.{AllByRecursion}
+use Rattle.std.specs.List.Sorted.{IsStrictlySortedBy}
+use Rattle.std.proofs.Common.{arith, ap, sym, subst, ◌∙◌}
+use Rattle.terrain_base.specs.declared.square.Square.{Square}
+use Rattle.terrain_base.specs.SquareOrder.{square_cmp}
+use Rattle.terrain_base.proofs.SquareOrder.{squares_total}
+use Rattle.db_manifest.specs.Manifest.{Ascend}
+
+all-push : (P : Square → Type 0) (xs : List Square) (y : Square) → AllByRecursion P xs → P y → AllByRecursion P (xs ++ y ∷ [])
+all-push P [] y p q = (q, tt)
+all-push P (x ∷ xs) y p q = (p.0, all-push P xs y p.1 q)
+
+all-last : (P : Square → Type 0) (xs : List Square) (y : Square) → AllByRecursion P (xs ++ y ∷ []) → P y
+all-last P [] y p = p.0
+all-last P (x ∷ xs) y p = all-last P xs y p.1
+
+push_ascend : (front : List Square) (last x : Square) → Ascend (front ++ last ∷ []) → square_cmp last x ≡ Less → Ascend ((front ++ last ∷ []) ++ x ∷ [])
+unfolding IsStrictlySortedBy
+push_ascend [] last x p e = ((e, tt), (tt, tt))
+push_ascend (f ∷ front) last x p e =
+    (all-push (λ y. square_cmp f y ≡ Less) (front ++ last ∷ []) x p.0 (squares_total.trans f last x (all-last (λ y. square_cmp f y ≡ Less) front last p.0) e), push_ascend front last x p.1 e)
+
+last_less : (front : List Square) (last x : Square) → Ascend ((front ++ last ∷ []) ++ x ∷ []) → square_cmp last x ≡ Less
+unfolding IsStrictlySortedBy
+last_less [] last x p = p.0.0
+last_less (f ∷ front) last x p = last_less front last x p.1
+
+front_of : (rows : List Square) (last : Square) → slice_get rows (length rows - 1) ≡ Some last → (front : List Square) × (rows ≡ front ++ last ∷ [])
+front_of [] last e = absurd (cc)
+front_of (r ∷ []) last e = let same : r ≡ last = cc in ([], ap (λ s. s ∷ []) same)
+front_of (r ∷ s ∷ rest) last e =
+    let shorter : suc (suc (length rest)) - 1 ≡ suc (length rest) = omega arith in
+    let place : suc (length rest) - 1 ≡ length rest = omega arith in
+    let more = front_of (s ∷ rest) last (ap (slice_get (s ∷ rest)) place ∙ sym (ap (slice_get (r ∷ s ∷ rest)) shorter) ∙ e) in
+    (r ∷ more.0, ap (λ xs. r ∷ xs) more.1)
+
+is_lt_less : (o : Ordering) → is_lt o ≡ true → o ≡ Less
+is_lt_less o e = grind arith
+
+pub one_ascends : (rows : List Square) (x : Square) → slice_get rows (length rows - 1) ≡ None → Ascend (rows ++ x ∷ [])
+unfolding IsStrictlySortedBy
+one_ascends [] x e = (tt, tt)
+one_ascends (r ∷ []) x e = absurd (cc)
+one_ascends (r ∷ s ∷ rest) x e = absurd (none_none (s ∷ rest) r e)
+  where
+    none_none : (xs : List Square) (r : Square) → slice_get (r ∷ xs) (length (r ∷ xs) - 1) ≡ None → ⊥
+    none_none [] r e = absurd (cc)
+    none_none (s ∷ xs) r e =
+        let shorter : suc (suc (length xs)) - 1 ≡ suc (length xs) = omega arith in
+        let place : suc (length xs) - 1 ≡ length xs = omega arith in
+        none_none xs s (ap (slice_get (s ∷ xs)) place ∙ sym (ap (slice_get (r ∷ s ∷ xs)) shorter) ∙ e)
+
+pub follows_is : (rows : List Square) (last x : Square) (b : Bool) → Ascend rows → slice_get rows (length rows - 1) ≡ Some last → b ≡ is_lt (square_cmp last x)
+    → IsTrue b ↔ Ascend (rows ++ x ∷ [])
+follows_is rows last x b p e is =
+    let split = front_of rows last e in (
+      (λ yes. subst (λ rs. Ascend (rs ++ x ∷ [])) (sym split.1) (push_ascend split.0 last x (subst Ascend split.1 p) (is_lt_less (square_cmp last x) (sym is ∙ yes)))),
+      (λ q. is ∙ ap is_lt (last_less split.0 last x (subst (λ rs. Ascend (rs ++ x ∷ [])) split.1 q))),
+    )

@@ -1,0 +1,4 @@
+pub mod Manifest
+pub mod Refused
+pub mod Rows
+pub mod Laws
