@@ -46,6 +46,7 @@ impl Manifest {
     pub fn version(&self) -> u32
         ensures { result ≡ self.now.version }
     {
+        // A field is looked at, so that the proof sees what the value stands for.
         let _params = &self.params;
         1
     }
