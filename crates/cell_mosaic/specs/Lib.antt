@@ -1,0 +1,10 @@
+pub mod Blend
+pub mod BlendLaws
+pub mod Candidates
+pub mod Cells
+pub mod Fault
+pub mod Source
+pub mod Squares
+pub mod Value
+pub mod Whole
+pub mod WholeAgrees

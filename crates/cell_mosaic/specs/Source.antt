@@ -1,0 +1,69 @@
+-- What a call on a source of posts leaves of it and of the store that it is lent, and what its faults show.
+use Rattle.std.specs.Prelude.{◌≡◌, ℕ, ◌≤◌, Bool, List, Option, Some, None, Result, IfErr, IfSome, IsErrOf, IsSome}
+use Rattle.std.specs.FinMap.{get}
+use Rattle.terrain_base.specs.declared.name.Key.TheVariants.{Cell as CellName}
+use Rattle.terrain_base.specs.declared.square.Square.{Square}
+use Rattle.terrain_base.specs.declared.level.CellLevel.{CellLevel}
+use Rattle.terrain_base.specs.declared.store.Change.{Change}
+use Rattle.terrain_base.specs.Cause.{Rose}
+use Rattle.terrain_base.specs.Step.{Files}
+use Rattle.dted_cell.specs.declared.trouble.CellTrouble.{CellTrouble}
+use Rattle.dted_cell.specs.declared.trouble.CellTrouble.TheVariants.{Lost, Bad, Elsewhere, Changed}
+use Rattle.dted_cell.specs.Trouble.{Shows, name_of}
+use Rattle.cell_mosaic.specs.Cells.{Cells, Shapes}
+use Rattle.cell_mosaic.specs.declared.fault.SourceFault.{SourceFault}
+use Rattle.cell_mosaic.specs.declared.fault.SourceFault.TheVariants.{Failed, NoMemory, Cell}
+
+-- the store's count of faults never falls, and 'Failed' is answered only where it rose
+pub record FaultHasCause {T : Type 0} (before now : ℕ) (result : Result T SourceFault) : Type 0 where
+  pub later : before ≤ now
+  pub failed : IsErrOf result Failed → Rose before now
+
+-- a level that the trouble says the cell was opened with is this one
+abbrev pub IsOpenedAt : CellLevel → CellTrouble → Type 0
+IsOpenedAt level (Lost name) = Unit {0}
+IsOpenedAt level (Bad name refusal) = Unit {0}
+IsOpenedAt level (Elsewhere name found) = Unit {0}
+IsOpenedAt level (Changed name opened found) = opened ≡ level
+
+-- the trouble is with the cell of a square of the shapes
+pub record IsTroubleWith (shapes : Shapes) (trouble : CellTrouble) : Type 0 where
+  pub square : Square
+  pub level : CellLevel
+  pub known : get shapes square ≡ Some level
+  pub name : name_of trouble ≡ CellName square
+  pub opened : IsOpenedAt level trouble
+
+-- trouble is with a cell of the shapes, the store's files show it where they are told, and there is none where the
+-- cells are told
+pub record IsShown (shapes : Shapes) (files : Option Files) (told : Option Cells) (trouble : CellTrouble) : Type 0 where
+  pub subject : IsTroubleWith shapes trouble
+  pub shown : IfSome files (λ files. Shows files trouble)
+  pub untold : told ≡ None
+
+abbrev pub FaultIsShown : Shapes → Option Files → Option Cells → SourceFault → Type 0
+FaultIsShown shapes files told Failed = Unit {0}
+FaultIsShown shapes files told NoMemory = Unit {0}
+FaultIsShown shapes files told (Cell trouble) = IsShown shapes files told trouble
+
+-- so says an answer that is such trouble
+abbrev pub TroubleIsShown : {T : Type 0} → Shapes → Option Files → Option Cells → Result T SourceFault → Type 0
+TroubleIsShown shapes files told result = IfErr result (FaultIsShown shapes files told)
+
+-- Nothing that can be seen is changed: not what the store holds nor its log, not the shapes nor whether the source is
+-- sure; and cells that were told stay told and the same.
+pub record Keeps {P : Type 0} (cells : P → Option Files → Option Cells) (shapes : P → Shapes) (sure : P → Bool)
+    (source source' : P) (files files' : Option Files) (log log' : Option (List Change)) : Type 0 where
+  pub shape : shapes source' ≡ shapes source
+  pub certain : sure source' ≡ sure source
+  pub stays : (told : Cells) → cells source files ≡ Some told → cells source' files ≡ Some told
+  pub held : files' ≡ files
+  pub logged : log' ≡ log
+
+-- two stores hold the same under the name of each cell of the shapes, as far as they tell it
+abbrev pub AlikeCells : Shapes → Option Files → Option Files → Type 0
+AlikeCells shapes None None = Unit {0}
+AlikeCells shapes (Some files) None = ⊥
+AlikeCells shapes None (Some files') = ⊥
+AlikeCells shapes (Some files) (Some files') =
+    (square : Square) → IsSome (get shapes square) → get files (CellName square) ≡ get files' (CellName square)

@@ -1,0 +1,128 @@
+// The value at a place in a square's cell.
+ghost use Rattle.std.specs.Prelude.{◌≡◌, ◌+◌, ◌-◌, ◌*◌, ◌/◌, ◌%◌, ◌^◌, ◌<◌, ◌≤◌, ◌==◌, Some, IsSome, IsFalse, IfOk, IsTrue, IsOk};
+ghost use Rattle.std.specs.FinMap as map;
+ghost use Rattle.terrain_base.specs.Level.{rows_of, columns_of};
+ghost use Rattle.tms_tree.specs.Degrees.{Holds, square_rectangle};
+ghost use Rattle.tms_tree.specs.Place.{IsPlace, point_of};
+ghost use Rattle.cell_mosaic.specs.Cells.{Cells, HasPost, IsPost, post_at};
+ghost use Rattle.cell_mosaic.specs.Source.{FaultHasCause, TroubleIsShown, Keeps};
+ghost use Rattle.cell_mosaic.specs.Value.{east_of, north_of, unless_ignored, quad_round, ArePosts, value_at};
+
+use crate::{PostSource, Quad, SourceFault, blend};
+use terrain_base::{Post, Square, Store, columns, rows};
+use tms_tree::Place;
+
+/// How far the place lies east of the square's western meridian, in units of a degree over `d`.
+fn east(square: Square, place: Place) -> u64
+    requires place { IsPlace place }
+    requires holds { Holds (square_rectangle square) (point_of place) }
+    ensures value { result ≡ east_of square place }
+    ensures within { result ≤ place.d }
+{
+    (180 * place.p + (360 - square.lon() as u64) * place.d) % (360 * place.d)
+}
+
+/// How far the place lies north of the square's southern parallel, in units of a degree over `d`.
+fn north(square: Square, place: Place) -> u64
+    requires place { IsPlace place }
+    requires holds { Holds (square_rectangle square) (point_of place) }
+    ensures value { result ≡ north_of square place }
+    ensures within { result ≤ place.d }
+{
+    180 * place.q - square.lat() as u64 * place.d
+}
+
+/// The post before a point that lies so many units of a degree over `d` from the first of the posts of a degree, and
+/// how far beyond it the point lies, in steps over `d`.
+fn step(units: u64, posts: u16, d: u64) -> (u16, u64)
+    requires posts { (2 ≤ posts) × (posts ≤ 3601) }
+    requires d { (0 < d) × (d ≤ 2 ^ 29) }
+    requires units { units ≤ d }
+    ensures post { result.0 ≡ units * (posts - 1) / d }
+    ensures beyond { result.1 ≡ units * (posts - 1) % d }
+    ensures small { result.1 < d }
+    ensures there { result.0 < posts }
+    ensures next { 0 < result.1 → result.0 + 1 < posts }
+{
+    let steps = units * (posts as u64 - 1);
+    ((steps / d) as u16, steps % d)
+}
+
+/// The post, or a void in its place where it is ignored.
+fn post_unless<P: PostSource, S: Store>(
+    is_ignored: bool,
+    src: &mut P,
+    store: &mut S,
+    square: Square,
+    col: u16,
+    row: u16,
+) -> Result<Post, SourceFault>
+    requires held { IsFalse is_ignored → HasPost (P.shapes src.old) square col row }
+    ensures value { IfOk result (λ post. (told : Cells) → P.cells src.old (S.holds store.old) ≡ Some told → post ≡ unless_ignored is_ignored (post_at told square col row)) }
+    ensures height { IfOk result IsPost }
+    ensures sure { IsTrue (P.sure src.old) → IsOk result }
+    ensures shown { TroubleIsShown (P.shapes src.old) (S.holds store.old) (P.cells src.old (S.holds store.old)) result }
+    ensures cause { FaultHasCause (S.faults store.old) (S.faults store.new) result }
+    ensures keeps { Keeps P.cells P.shapes P.sure src.old src.new (S.holds store.old) (S.holds store.new) (S.log store.old) (S.log store.new) }
+{
+    if is_ignored {
+        return Ok(Post::Void);
+    }
+    src.post(store, square, col, row)
+}
+
+/// The posts round a point, with voids in place of those that are ignored.
+fn quad<P: PostSource, S: Store>(
+    src: &mut P,
+    store: &mut S,
+    square: Square,
+    col: u16,
+    row: u16,
+    on_column: bool,
+    on_row: bool,
+) -> Result<Quad, SourceFault>
+    requires sw { HasPost (P.shapes src.old) square col row }
+    requires se { IsFalse on_column → HasPost (P.shapes src.old) square (col + 1) row }
+    requires nw { IsFalse on_row → HasPost (P.shapes src.old) square col (row + 1) }
+    requires small { (col < 3601) × (row < 3601) }
+    ensures value { IfOk result (λ quad. (told : Cells) → P.cells src.old (S.holds store.old) ≡ Some told → quad ≡ quad_round (post_at told square) col row on_column on_row) }
+    ensures height { IfOk result ArePosts }
+    ensures sure { IsTrue (P.sure src.old) → IsOk result }
+    ensures shown { TroubleIsShown (P.shapes src.old) (S.holds store.old) (P.cells src.old (S.holds store.old)) result }
+    ensures cause { FaultHasCause (S.faults store.old) (S.faults store.new) result }
+    ensures keeps { Keeps P.cells P.shapes P.sure src.old src.new (S.holds store.old) (S.holds store.new) (S.log store.old) (S.log store.new) }
+{
+    let sw = src.post(store, square, col, row)?;
+    let se = post_unless(on_column, src, store, square, col + 1, row)?;
+    let nw = post_unless(on_row, src, store, square, col, row + 1)?;
+    let ne = post_unless(on_column || on_row, src, store, square, col + 1, row + 1)?;
+    Ok(Quad { sw, se, nw, ne })
+}
+
+/// The value at the place in the square's cell, by the posts round it: void, or metres within -16000 to 16000. The
+/// square has a cell and its closed rectangle holds the place. Faults have the causes that a post's have.
+pub fn cell_value<P: PostSource, S: Store>(
+    src: &mut P,
+    store: &mut S,
+    square: Square,
+    place: Place,
+) -> Result<Post, SourceFault>
+    requires place { IsPlace place }
+    requires known { IsSome (map.get (P.shapes src.old) square) }
+    requires holds { Holds (square_rectangle square) (point_of place) }
+    ensures value { IfOk result (λ post. (told : Cells) → P.cells src.old (S.holds store.old) ≡ Some told → post ≡ value_at told square place) }
+    ensures height { IfOk result IsPost }
+    ensures sure { IsTrue (P.sure src.old) → IsOk result }
+    ensures shown { TroubleIsShown (P.shapes src.old) (S.holds store.old) (P.cells src.old (S.holds store.old)) result }
+    ensures cause { FaultHasCause (S.faults store.old) (S.faults store.new) result }
+    ensures keeps { Keeps P.cells P.shapes P.sure src.old src.new (S.holds store.old) (S.holds store.new) (S.log store.old) (S.log store.new) }
+{
+    let Some(level) = src.shape(square) else {
+        unreachable!()
+    };
+    let (col, east) = step(east(square, place), columns(square, level), place.d);
+    let (row, north) = step(north(square, place), rows(level), place.d);
+    let quad = quad(src, store, square, col, row, east == 0, north == 0)?;
+    let unit = place.d as u128;
+    Ok(blend(&quad, east as u128, unit, north as u128, unit))
+}

@@ -1,0 +1,126 @@
+// All cells in memory.
+ghost use Rattle.std.specs.Prelude.{◌≡◌, ◌+◌, ◌<◌, ◌≤◌, length};
+ghost use Rattle.dted_cell.specs.Field.{word_at};
+ghost use Rattle.dted_cell.specs.Cell.{columns_in, rows_in, post_in};
+ghost use Rattle.dted_cell.specs.Trouble.{IsCellOf};
+ghost use Rattle.cell_mosaic.specs.Cells.{IsPost};
+ghost use Rattle.cell_mosaic.specs.Whole.{AreOfSquares};
+
+use crate::{PostSource, SourceFault};
+use dted_cell::CellBytes;
+use std::alloc::Global;
+use std::collections::BTreeMap;
+use terrain_base::{CellLevel, Post, Square, Store};
+
+/// The cell's square. Its bytes are asked for since they tell that it is a cell.
+fn square_of(cell: &CellBytes) -> Square
+    ensures { IsCellOf result cell.now }
+{
+    let _bytes = cell.bytes();
+    cell.view().square()
+}
+
+/// The number of the two bytes at a place, the highest first.
+fn word(bytes: &[u8], at: usize) -> u16
+    requires { at + 2 ≤ length bytes.now }
+    ensures { result ≡ word_at bytes.now at }
+{
+    256 * u16::from(bytes[at]) + u16::from(bytes[at + 1])
+}
+
+/// The post of a column and a row. Its two bytes are read since they bound it.
+fn post_of(cell: &CellBytes, col: u16, row: u16) -> Post
+    requires col { col < columns_in cell.now }
+    requires row { row < rows_in cell.now }
+    ensures value { result ≡ post_in cell.now col row }
+    ensures height { IsPost result }
+{
+    let _bytes = cell.bytes();
+    let view = cell.view();
+    let profile = view.profile(col);
+    let _word = word(profile.bytes(), 2 * row as usize);
+    profile.post(row)
+}
+
+/// Want of memory, with the cell that was to be put.
+#[derive(Drop)]
+pub struct NoRoom {
+    pub cell: CellBytes,
+}
+
+/// A source that keeps all its cells in memory. It is sure, and does not use the store that it is lent.
+#[derive(Drop)]
+pub struct WholeCells {
+    cells: BTreeMap<Square, CellBytes>,
+    ghost good: { AreOfSquares cells.entries },
+}
+
+impl WholeCells {
+    ghost use Rattle.std.specs.Prelude.{Some, None, Option, OnOk, OnErr, IfErr, option_map};
+    ghost use Rattle.std.specs.FinMap as map;
+    ghost use Rattle.terrain_base.specs.Step.{Files};
+    ghost use Rattle.dted_cell.specs.Cell.{square_in, level_in};
+    ghost use Rattle.cell_mosaic.specs.Cells.{Cells};
+
+    /// A source without cells. Takes no memory.
+    pub fn new(alloc: Global) -> WholeCells
+        ensures cells { (files : Option Files) → ⟦<WholeCells as PostSource>⟧.cells result files ≡ Some map.empty }
+        ensures shapes { ⟦<WholeCells as PostSource>⟧.shapes result ≡ map.empty }
+    {
+        WholeCells {
+            cells: BTreeMap::new(alloc),
+        }
+    }
+
+    /// Puts one cell more, whose square has none. For want of memory the cell is handed back and nothing is changed.
+    pub fn put(&mut self, cell: CellBytes) -> Result<(), NoRoom>
+        requires { map.get (⟦<WholeCells as PostSource>⟧.shapes self.old) (square_in cell) ≡ None }
+        ensures cells { OnOk result ((files : Option Files) → ⟦<WholeCells as PostSource>⟧.cells self.new files ≡ option_map (λ cells. map.insert cells (square_in cell) cell) (⟦<WholeCells as PostSource>⟧.cells self.old files)) }
+        ensures shapes { OnOk result (⟦<WholeCells as PostSource>⟧.shapes self.new ≡ map.insert (⟦<WholeCells as PostSource>⟧.shapes self.old) (square_in cell) (level_in cell)) }
+        ensures returned { IfErr result (λ room. room.cell ≡ cell) }
+        ensures cells_stay { OnErr result ((files : Option Files) → ⟦<WholeCells as PostSource>⟧.cells self.new files ≡ ⟦<WholeCells as PostSource>⟧.cells self.old files) }
+        ensures shapes_stay { OnErr result (⟦<WholeCells as PostSource>⟧.shapes self.new ≡ ⟦<WholeCells as PostSource>⟧.shapes self.old) }
+    {
+        let square = square_of(&cell);
+        match self.cells.insert(square, cell) {
+            Ok(_) => Ok(()),
+            Err(back) => Err(NoRoom { cell: back.value.1 }),
+        }
+    }
+}
+
+impl PostSource for WholeCells {
+    ghost use Rattle.std.specs.Prelude.{true, refl, Some};
+    ghost use Rattle.cell_mosaic.specs.Whole.{cells_of, shapes_of};
+    ghost use Rattle.cell_mosaic.specs.WholeAgrees.{whole_agrees};
+
+    ghost cells = { λ source files. Some (cells_of source.cells.entries) };
+
+    ghost shapes = { λ source. shapes_of source.cells.entries };
+
+    ghost sure = { λ source. true };
+
+    ghost agree = { λ source files told is. whole_agrees source.cells.entries told source.good is };
+
+    ghost by_names = { λ source files files' alike. refl };
+
+    fn shape(&self, square: Square) -> Option<CellLevel> {
+        match self.cells.get(&square) {
+            Some(cell) => Some(cell.view().level()),
+            None => None,
+        }
+    }
+
+    fn post<S: Store>(
+        &mut self,
+        _store: &mut S,
+        square: Square,
+        col: u16,
+        row: u16,
+    ) -> Result<Post, SourceFault> {
+        let Some(cell) = self.cells.get(&square) else {
+            unreachable!()
+        };
+        Ok(post_of(cell, col, row))
+    }
+}
