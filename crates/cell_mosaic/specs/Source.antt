@@ -1,5 +1,5 @@
 -- What a call on a source of posts leaves of it and of the store that it is lent, and what its faults show.
-use Rattle.std.specs.Prelude.{◌≡◌, ℕ, ◌≤◌, Bool, List, Option, Some, None, Result, IfErr, IfSome, IsErrOf, IsSome}
+use Rattle.std.specs.Prelude.{◌≡◌, ◌≢◌, ℕ, ◌≤◌, Bool, List, Option, Some, None, Result, IfErr, IfSome, IsErrOf, IsSome}
 use Rattle.std.specs.FinMap.{get}
 use Rattle.terrain_base.specs.declared.name.Key.TheVariants.{Cell as CellName}
 use Rattle.terrain_base.specs.declared.square.Square.{Square}
@@ -19,12 +19,12 @@ pub record FaultHasCause {T : Type 0} (before now : ℕ) (result : Result T Sour
   pub later : before ≤ now
   pub failed : IsErrOf result Failed → Rose before now
 
--- a level that the trouble says the cell was opened with is this one
+-- a level that the trouble says the cell was opened with is this one, and another than the one found
 abbrev pub IsOpenedAt : CellLevel → CellTrouble → Type 0
 IsOpenedAt level (Lost name) = Unit {0}
 IsOpenedAt level (Bad name refusal) = Unit {0}
 IsOpenedAt level (Elsewhere name found) = Unit {0}
-IsOpenedAt level (Changed name opened found) = opened ≡ level
+IsOpenedAt level (Changed name opened found) = (opened ≡ level) × (opened ≢ found)
 
 -- the trouble is with the cell of a square of the shapes
 pub record IsTroubleWith (shapes : Shapes) (trouble : CellTrouble) : Type 0 where
