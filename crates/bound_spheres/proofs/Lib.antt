@@ -1,0 +1,4 @@
+pub mod Farthest
+pub mod FarPoints
+pub mod Hulls
+pub mod Spheres

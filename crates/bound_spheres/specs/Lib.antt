@@ -1,0 +1,4 @@
+pub mod FarPoint
+pub mod Hull
+pub mod Reach
+pub mod Sphere
