@@ -1,0 +1,11 @@
+pub mod Nodes
+pub mod Fairness
+pub mod FanTriangles
+pub mod Meanings
+pub mod Areas
+pub mod Rows
+pub mod NodeLines
+pub mod FanLines
+pub mod Levels
+pub mod Nearby
+pub mod LeafTriangles

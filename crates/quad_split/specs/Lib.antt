@@ -1,0 +1,8 @@
+pub mod Node
+pub mod Fan
+pub mod Fits
+pub mod Square
+pub mod Split
+pub mod SplitMap
+pub mod Midpoints
+pub mod Laws
