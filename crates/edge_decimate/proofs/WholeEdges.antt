@@ -13,7 +13,8 @@ pub kept_part : (line : List ℤ) (tol a b : ℕ) → a < b → kept_in line tol
 kept_part line tol a b l = go (b - a) refl
   where
     step : (n : ℕ) → b - a ≡ suc n → (v : Bool) → are_near line tol a b ≡ v
-        → cond v [] (kept_between n line tol a (halfway a b) ++ halfway a b ∷ kept_between n line tol (halfway a b) b)
+        → cond v [] (kept_between n line tol a (halfway a b) ++ halfway a b
+        ∷ kept_between n line tol (halfway a b) b)
         ≡ cond v [] (kept_in line tol a (halfway a b) ++ halfway a b ∷ kept_in line tol (halfway a b) b)
     step n h true e = refl
     step n h false e =
@@ -30,7 +31,8 @@ kept_part line tol a b l = go (b - a) refl
 
 pub kept_edge : (line : List ℤ) (tol : ℕ) → kept_points line tol ≡ 0 ∷ (kept_in line tol 0 66 ++ 66 ∷ [])
 unfolding kept_points
-kept_edge line tol = ap (λ (ks : List ℕ). 0 ∷ (ks ++ 66 ∷ [])) (enough 66 (66 - 0) line tol 0 66 (omega arith) (omega arith))
+kept_edge line tol = ap (λ (ks : List ℕ). 0 ∷ (ks ++ 66
+    ∷ [])) (enough 66 (66 - 0) line tol 0 66 (omega arith) (omega arith))
 
 pub kept_enough : (n : ℕ) (line : List ℤ) (tol a b : ℕ) → b ≤ a + n
     → kept_between n line tol a b ≡ kept_in line tol a b
@@ -41,7 +43,8 @@ pub kept_are_near : (line : List ℤ) (tol a b : ℕ) (before after : List ℕ)
     → kept_points line tol ≡ before ++ (a ∷ b ∷ after) → are_near line tol a b ≡ true
 unfolding kept_points
 kept_are_near line tol a b before after e =
-    neighbours_near line tol 0 (kept_between 66 line tol 0 66) 66 (kept_near 66 line tol 0 66 (omega arith)) before a b
+    neighbours_near line tol 0 (kept_between 66 line tol 0 66) 66 (kept_near 66 line tol 0 66
+    (omega arith)) before a b
     after e
 
 pub near_law : (line : List ℤ) (tol a b : ℕ) (before after : List ℕ)

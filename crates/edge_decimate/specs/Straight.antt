@@ -15,7 +15,8 @@ length_of a b = pos (line_of b) -ℤ pos (line_of a)
 -- from a to b
 abbrev pub gap_of : List ℤ → ℕ → ℕ → ℕ → ℤ
 gap_of line a b i =
-    height_at line i *ℤ length_of a b -ℤ (height_at line a *ℤ length_of i b +ℤ height_at line b *ℤ length_of a i)
+    height_at line i *ℤ length_of a b
+    -ℤ (height_at line a *ℤ length_of i b +ℤ height_at line b *ℤ length_of a i)
 
 -- the height at i is within the tolerance of the straight line
 abbrev pub IsNear : List ℤ → ℕ → ℕ → ℕ → ℕ → Type 0

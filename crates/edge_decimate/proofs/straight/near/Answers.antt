@@ -11,7 +11,8 @@ upper : (g l : ℤ) → l <ℤ g → int_le g l ≡ (int_le g l && int_le (pos 0
 upper g l h = grind (arith, ints)
 
 -- what both branches answer
-value : (g l t d g' d' : ℤ) → g ≡ g' → l ≡ t *ℤ d → d ≡ d' → (int_le g l && int_le (pos 0 -ℤ g) l) ≡ (int_le g' (t *ℤ d') && int_le (pos 0 -ℤ g') (t *ℤ d'))
+value : (g l t d g' d' : ℤ) → g ≡ g' → l ≡ t *ℤ d → d ≡ d' → (int_le g l && int_le (pos 0 -ℤ g) l)
+    ≡ (int_le g' (t *ℤ d') && int_le (pos 0 -ℤ g') (t *ℤ d'))
 value g l t d g' d' e k h = cc
 
 pub returns-then-gap-limit : goal.returns-then-gap-limit
@@ -25,7 +26,8 @@ returns-then-gap-limit c =
     let t : to_z w64 c.args.tol ≡ pos c.args.tol = omega (arith, ints) in
     let k = simp to_z-of_z at c.product-limit.ensures.value in
     let h : g ≤ℤ l = omega (arith, ints) in
-    simp to_z-of_z (lower g l h ∙ value g l (pos c.args.tol) c.length_from.result _ _ c.gap_at-gap.ensures.value (k ∙ ap (λ i. i *ℤ c.length_from.result) t) c.length_from.ensures.value)
+    simp to_z-of_z (lower g l h ∙ value g l (pos c.args.tol) c.length_from.result _ _
+    c.gap_at-gap.ensures.value (k ∙ ap (λ i. i *ℤ c.length_from.result) t) c.length_from.ensures.value)
 
 pub returns-else-gap-limit : goal.returns-else-gap-limit
 unfolding is_near
@@ -37,4 +39,5 @@ returns-else-gap-limit c =
     let t : to_z w64 c.args.tol ≡ pos c.args.tol = omega (arith, ints) in
     let k = simp to_z-of_z at c.product-limit.ensures.value in
     let h : l <ℤ g = omega (arith, ints) in
-    simp to_z-of_z (upper g l h ∙ value g l (pos c.args.tol) c.length_from.result _ _ c.gap_at-gap.ensures.value (k ∙ ap (λ i. i *ℤ c.length_from.result) t) c.length_from.ensures.value)
+    simp to_z-of_z (upper g l h ∙ value g l (pos c.args.tol) c.length_from.result _ _
+    c.gap_at-gap.ensures.value (k ∙ ap (λ i. i *ℤ c.length_from.result) t) c.length_from.ensures.value)

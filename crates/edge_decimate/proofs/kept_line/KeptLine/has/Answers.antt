@@ -7,7 +7,8 @@ use Rattle.edge_decimate.proofs.kept_line.KeptLine.has.Goals as goal
 
 pub returns-then-i-le66 : goal.returns-then-i-le66
 returns-then-i-le66 c =
-    subst (λ (ks : List ℕ). IsTrue (get_or c.self.inside.bits c.args.i false) ↔ Contains ks c.args.i) c.self.view_is
+    subst (λ (ks : List ℕ). IsTrue (get_or c.self.inside.bits c.args.i false) ↔ Contains ks c.args.i)
+    c.self.view_is
     (is_marked c.args.i c.self.inside.bits)
 
 pub returns-else-i-le66 : goal.returns-else-i-le66
