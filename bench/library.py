@@ -1,0 +1,47 @@
+#!/usr/bin/env python3
+"""Times the work of the program's libraries that no command does by itself yet.
+
+usage: bench/library.py [KIND [PEER WORD..]]
+
+KIND is `boxes` (boxes of places in Earth-fixed coordinates), `dense` or `hilly` (meshes of a grid of heights), `grids`
+(grids of heights over a level 2 cell), or left out, which times each. Prints how many results a second come, from the best of
+five runs, less that of a run that makes none. Given a PEER's command that makes one such result, it prints that command's
+seconds too.
+"""
+
+import subprocess
+import sys
+
+import timing
+
+COUNTS = {"boxes": 200000, "dense": 1000, "hilly": 1000, "grids": 500}
+
+
+def built():
+    """The program of the benchmarks, which is built where it is not there yet."""
+    folder = timing.ROOT / "crates/terrain_bench"
+    program = folder / "out/terrain_bench"
+    if not program.exists():
+        subprocess.run(["rt", "run", "--", "none"], cwd=folder, stdout=subprocess.DEVNULL, check=True)
+    return program
+
+
+def best(words):
+    """The seconds of the fastest of the runs."""
+    return min(timing.timed(words)[0] for _ in range(timing.RUNS))
+
+
+def main():
+    kinds = sys.argv[1:2] or list(COUNTS)
+    program = built()
+    for kind in kinds:
+        count = COUNTS[kind]
+        seconds = best([program, kind, count]) - best([program, kind, 0])
+        line = f"{kind}: {count / seconds:.0f} a second, {seconds / count * 1e6:.1f} microseconds each"
+        if sys.argv[2:]:
+            line += f", peer {best(sys.argv[2:]):.4f} s for one"
+        print(line)
+
+
+if __name__ == "__main__":
+    main()
