@@ -1,0 +1,35 @@
+-- The height at a place, and the heights of a tile's grid points.
+use Rattle.std.specs.Prelude.{◌/◌, ◌%◌, ℤ, Bool, not, List, map, Option, Some, None, is_some}
+use Rattle.std.specs.List.{filter, find, range_with_len}
+use Rattle.std.specs.FinMap.{get}
+use Rattle.terrain_base.specs.declared.square.Square.{Square}
+use Rattle.terrain_base.specs.declared.tile.TileId.{TileId}
+use Rattle.terrain_base.specs.declared.post.Post.{Post}
+use Rattle.terrain_base.specs.declared.post.Post.TheVariants.{Void, Metres}
+use Rattle.tms_tree.specs.declared.place.Place.{Place}
+use Rattle.tms_tree.specs.Place.{place_of}
+use Rattle.dted_cell.specs.Cell.{is_void_post}
+use Rattle.cell_mosaic.specs.Cells.{Cells}
+use Rattle.cell_mosaic.specs.Candidates.{candidates_of}
+use Rattle.cell_mosaic.specs.Value.{value_at}
+
+abbrev pub height_or : ℤ → Option Post → ℤ
+height_or fill None = fill
+height_or fill (Some Void) = fill
+height_or fill (Some (Metres metres)) = metres
+
+-- the first that is not void, or the fill
+abbrev pub first_height : ℤ → List Post → ℤ
+first_height fill posts = height_or fill (find (λ post. not (is_void_post post)) posts)
+
+abbrev pub has_cell : Cells → Square → Bool
+has_cell cells square = is_some (get cells square)
+
+-- the first value that is not void, in the order of the candidates, of those that have a cell; or the fill
+unfoldable pub height_at : ℤ → Cells → Place → ℤ
+height_at fill cells place =
+    first_height fill (map (λ square. value_at cells square place) (filter (has_cell cells) (candidates_of place)))
+
+-- the heights at the tile's grid points, row by row from the south, each row from the west
+unfoldable pub grid_of : ℤ → Cells → TileId → List ℤ
+grid_of fill cells tile = map (λ k. height_at fill cells (place_of tile (k % 67) (k / 67))) (range_with_len 0 4489)

@@ -1,0 +1,13 @@
+//! What the definitions of heights and grids say, in the words of the subject. Each function does nothing: its contract
+//! is a law.
+ghost use Rattle.resample.specs.HeightLaws.{GridHasHeights, TurnChangesNothing};
+
+/// A grid has the height of the place at each of its points.
+pub fn grid_has_heights()
+    ensures { GridHasHeights }
+{}
+
+/// A whole turn of longitude changes no height.
+pub fn turn_changes_nothing()
+    ensures { TurnChangesNothing }
+{}
