@@ -3,6 +3,7 @@
 #![tactic(auto)]
 
 mod boxes;
+mod grids;
 mod meshes;
 
 use meshes::Kind;
@@ -15,6 +16,7 @@ use terrain_base::NoMemory;
 fn sum(alloc: Global, kind: &str, count: u32) -> Result<u64, NoMemory> {
     match kind {
         "boxes" => Ok(boxes::sum(count)),
+        "grids" => grids::sum(alloc, count),
         "dense" => meshes::sum(alloc, Kind::Dense, count),
         "hilly" => meshes::sum(alloc, Kind::Hilly, count),
         _ => Ok(0),
