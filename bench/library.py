@@ -38,6 +38,8 @@ def main():
         count = COUNTS[kind]
         seconds = best([program, kind, count]) - best([program, kind, 0])
         line = f"{kind}: {count / seconds:.0f} a second, {seconds / count * 1e6:.1f} microseconds each"
+        if kind == "grids":
+            line += f", {count * 67 * 67 / seconds / 1e6:.1f} million grid points a second"
         if sys.argv[2:]:
             line += f", peer {best(sys.argv[2:]):.4f} s for one"
         print(line)
