@@ -1,0 +1,11 @@
+pub mod Existing
+pub mod Crossings
+pub mod Ascending
+pub mod OneList
+pub mod Merges
+pub mod Scans
+pub mod Levels
+pub mod Counts
+pub mod Texts
+pub mod Deepest
+pub mod TileLists

@@ -1,0 +1,45 @@
+// Runs that touch are joined.
+ghost use Rattle.std.specs.Prelude.{◌≡◌, IfOk};
+ghost use Rattle.availability.specs.Merge.{joins_of, merged_of, Takes};
+
+use crate::RowRun;
+use std::alloc::Global;
+use terrain_base::NoMemory;
+
+// The next run, which does not begin before this one, lies in its row and leaves no column between them.
+fn joins(run: RowRun, next: RowRun) -> bool
+    ensures { result ≡ joins_of run next }
+{
+    run.row == next.row && next.start.saturating_sub(run.end) <= 1
+}
+
+// Takes the next run: the run grows by it, or is done.
+fn taken(done: &mut Vec<RowRun>, run: RowRun, next: RowRun) -> Result<RowRun, NoMemory>
+    ensures { IfOk result (λ grown. Takes run next grown done.old.items done.new.items) }
+{
+    if joins(run, next) {
+        Ok(RowRun {
+            row: run.row,
+            start: run.start,
+            end: run.end.max(next.end),
+        })
+    } else {
+        done.push(run)?;
+        Ok(next)
+    }
+}
+
+/// Joins the runs that have a column in common or stand side by side in a row. They are sorted.
+pub(crate) fn merged(alloc: Global, sorted: &[RowRun]) -> Result<Vec<RowRun>, NoMemory>
+    ensures { IfOk result (λ runs. runs.items ≡ merged_of sorted.now) }
+{
+    let mut done = Vec::new(alloc);
+    if let Some((first, rest)) = sorted.split_first() {
+        let mut run = *first;
+        for next in rest {
+            run = taken(&mut done, run, *next)?;
+        }
+        done.push(run)?;
+    }
+    Ok(done)
+}
