@@ -1,9 +1,10 @@
 //! The work that the benchmarks time. Its words are a kind of work and how often it is done; it prints the kind, the
-//! number, and a sum over all results.
+//! number, and a sum over all results. The kind `layer` prints the layer text of so many cells instead.
 #![tactic(auto)]
 
 mod boxes;
 mod grids;
+mod layers;
 mod meshes;
 
 use meshes::Kind;
@@ -12,15 +13,18 @@ use std::env;
 use std::io::{self, Write};
 use terrain_base::NoMemory;
 
-/// The sum over so many results of this kind of work; 0 for words that name none.
-fn sum(alloc: Global, kind: &str, count: u32) -> Result<u64, NoMemory> {
-    match kind {
-        "boxes" => Ok(boxes::sum(count)),
-        "grids" => grids::sum(alloc, count),
-        "dense" => meshes::sum(alloc, Kind::Dense, count),
-        "hilly" => meshes::sum(alloc, Kind::Hilly, count),
-        _ => Ok(0),
-    }
+/// What is printed for so many results of this kind of work.
+fn report(alloc: Global, kind: &str, count: u32) -> Result<Vec<u8>, NoMemory> {
+    let sum = match kind {
+        "layer" => return layers::text(alloc, count),
+        "boxes" => boxes::sum(count),
+        "grids" => grids::sum(alloc, count)?,
+        "dense" => meshes::sum(alloc, Kind::Dense, count)?,
+        "hilly" => meshes::sum(alloc, Kind::Hilly, count)?,
+        _ => 0,
+    };
+    let line = format!(in alloc; "{kind} {count} {sum}\n")?;
+    Ok(line.into_bytes())
 }
 
 fn main(rt: HostRuntime) -> io::Result<()> {
@@ -30,8 +34,8 @@ fn main(rt: HostRuntime) -> io::Result<()> {
         .next()
         .and_then(|word| word.parse::<u32>().ok())
         .unwrap_or(1);
-    match sum(rt.alloc(), kind.as_str(), count) {
-        Ok(sum) => println!(rt; "{kind} {count} {sum}"),
+    match report(rt.alloc(), kind.as_str(), count) {
+        Ok(text) => io::writer(&rt).write_all(&text),
         Err(NoMemory) => println!(rt; "no memory"),
     }
 }
