@@ -5,8 +5,8 @@ use std::test::Fail;
 use terrain_base::{Params, Square};
 
 // The answer's line, or 0 where the bytes are read.
-fn refused_line(alloc: Global, text: &str) -> u32 {
-    match Manifest::read(alloc, text.as_bytes()) {
+fn refused_line(alloc: Global, bytes: &[u8]) -> u32 {
+    match Manifest::read(alloc, bytes) {
         Err(ManifestRefusal::NotADatabase { line }) => line,
         _ => 0,
     }
@@ -46,6 +46,7 @@ fn each_line_can_be_the_first_bad_one(rt: HostRuntime) {
         (2, "terrain-db 1\ncap 09\nfill 0\n"),
         (3, "terrain-db 1\ncap 9\nfill -0\nstate closed\ncells 0\n"),
         (3, "terrain-db 1\ncap 9\nfill 16001\n"),
+        (3, "terrain-db 1\ncap 9\nfill +1\nstate closed\ncells 0\n"),
         (
             4,
             "terrain-db 1\ncap 9\nfill 0\nstate drop n00e000\ncells 0\n",
@@ -70,7 +71,19 @@ fn each_line_can_be_the_first_bad_one(rt: HostRuntime) {
             7,
             "terrain-db 1\ncap 9\nfill 0\nstate closed\ncells 1\nn00e000\n\n",
         ),
+        (
+            7,
+            "terrain-db 1\ncap 9\nfill 0\nstate closed\ncells 1\nn00e000\nn00e001\n",
+        ),
     ] {
-        assert_eq!(rt; refused_line(rt.alloc(), text), line, "{text}");
+        assert_eq!(rt; refused_line(rt.alloc(), text.as_bytes()), line, "{text}");
     }
+}
+
+#[test]
+fn bytes_that_are_no_text_refuse_their_line(rt: HostRuntime) {
+    let cap = b"terrain-db 1\ncap \xFF\n".as_slice();
+    let row = b"terrain-db 1\ncap 9\nfill 0\nstate closed\ncells 1\n\xFF00e000\n".as_slice();
+    assert_eq!(rt; refused_line(rt.alloc(), cap), 2);
+    assert_eq!(rt; refused_line(rt.alloc(), row), 6);
 }

@@ -7,7 +7,7 @@ use Rattle.mesh_plane.specs.Quadtree.{line_of}
 use Rattle.tile_mesh.specs.Rule.{leaf_ends}
 
 -- how many nodes of a level lie along a side
-across : (k : ℕ) → k ≤ 6 → 64 / 2 ^ k ≡ 2 ^ (6 - k)
+pub across : (k : ℕ) → k ≤ 6 → 64 / 2 ^ k ≡ 2 ^ (6 - k)
 across zero h = refl
 across (suc zero) h = refl
 across (suc (suc zero)) h = refl

@@ -1,8 +1,12 @@
 pub mod Sides
 pub mod Merge
+pub mod InnerPoints
 pub mod Kept
 pub mod Rule
 pub mod Numbers
 pub mod Growth
 pub mod Mesh
+pub mod Merging
+pub mod Numbering
+pub mod Plane
 pub mod Squares

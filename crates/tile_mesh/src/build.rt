@@ -2,8 +2,11 @@
 ghost use Rattle.std.specs.Prelude.{◌≡◌, ◌≤◌, [], IfOk, OnOk};
 ghost use Rattle.quad_split.specs.SplitMap.{bit_at};
 ghost use Rattle.tile_mesh.specs.Mesh.{mesh_on, kept_on, mesh_of_grid};
+ghost use Rattle.terrain_base.specs.Grid.{tolerance_of};
+ghost use Rattle.mesh_plane.specs.Cover.{Covers};
 ghost use Rattle.tile_mesh.specs.Growth.{Grows};
 ghost use Rattle.tile_mesh.specs.Numbers.{Adds};
+ghost use Rattle.tile_mesh.specs.Plane.{edge_vertices, kept_vertices, triangles_in};
 ghost use Rattle.tile_mesh.specs.Rule.{border_triangles, triangles_of};
 
 use crate::builder::Builder;
@@ -74,6 +77,9 @@ fn triangulated(alloc: Global, grid: &Grid, tol: u16, splits: &Splits) -> Result
 pub fn mesh_of(alloc: Global, grid: &Grid, z: u8) -> Result<TileMesh, NoMemory>
     requires { z ≤ 14 }
     ensures exact { IfOk result (λ mesh. mesh ≡ mesh_of_grid grid.now z) }
+    ensures covers { IfOk result (λ mesh. Covers (triangles_in mesh)) }
+    ensures edges { let kept = kept_vertices grid.now (tolerance_of z) in
+        IfOk result (λ mesh. (side : Side) → edge_vertices mesh side ≡ kept side) }
 {
     let tol = tolerance(z);
     let splits = split_map(grid, tol);

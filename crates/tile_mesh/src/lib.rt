@@ -5,6 +5,7 @@ mod build;
 mod builder;
 mod inner;
 mod kept;
+pub mod laws;
 mod leaves;
 mod mesh;
 mod point;

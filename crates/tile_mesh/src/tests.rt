@@ -42,10 +42,10 @@ fn flat_grid_gives_the_flat_tile(rt: HostRuntime) {
     for (triangle, (a, b, c)) in mesh.triangles().iter().zip(FLAT_TRIANGLES) {
         assert_eq!(rt; *triangle, Indexes { a, b, c });
     }
-    assert!(rt; mesh.edge(Side::West) == [0, 6]);
-    assert!(rt; mesh.edge(Side::South) == [0, 3]);
-    assert!(rt; mesh.edge(Side::East) == [3, 5]);
-    assert!(rt; mesh.edge(Side::North) == [6, 5]);
+    assert!(rt; mesh.edge(Side::West) == [0, 6].as_slice());
+    assert!(rt; mesh.edge(Side::South) == [0, 3].as_slice());
+    assert!(rt; mesh.edge(Side::East) == [3, 5].as_slice());
+    assert!(rt; mesh.edge(Side::North) == [6, 5].as_slice());
 }
 
 // The numbers of a list, mixed into one (FNV-1a over words of 64 bits).

@@ -1,0 +1,225 @@
+-- Points by first use.
+use Rattle.std.proofs.Common.{◌≡◌, ℕ, zero, suc, ◌+◌, ◌<◌, ◌≤◌, arith, Bool, true, false, not, cond, ◌&&◌, ◌||◌, List, [], ◌∷◌, ◌++◌, map, length, nat_eq, refl, ap, sym, ◌∙◌, subst, append_assoc, inl, inr}
+use Rattle.std.specs.Prelude.{slice_index_or, Contains, ◌⊎◌}
+use Rattle.std.specs.List.{position_or_len, list_any, AllByRecursion}
+use Rattle.std.proofs.lemmas.Bool.Decides.{nat_tests}
+use Rattle.std.proofs.lemmas.List.Elements.{Contains-append_right, Contains-append_cases}
+use Rattle.indexmap.specs.IndexSet.{insert_key, insert_all}
+use Rattle.mesh_plane.specs.Triangles.{Triple}
+use Rattle.mesh_plane.proofs.Tilings.{all_map}
+use Rattle.tile_mesh.specs.declared.point.GridPoint.{GridPoint}
+use Rattle.tile_mesh.specs.Sides.{grid_point}
+use Rattle.tile_mesh.specs.Numbers.{point_eq, first_uses, corners, numbered}
+use Rattle.tile_mesh.specs.Numbering.{first_use, named, IsNumbering}
+use Rattle.tile_mesh.proofs.Steps.{keys_after}
+use Rattle.tile_mesh.proofs.Corners.{AreFound, found}
+use Rattle.tile_mesh.proofs.MergeOrder.{Pairs, pairs_from}
+
+-- ---- equal points
+numbers_equal : (a b c d : ℕ) → (nat_eq a c && nat_eq b d) ≡ true → (a ≡ c) × (b ≡ d)
+numbers_equal a b c d e = (grind (arith, nat_tests), grind (arith, nat_tests))
+
+pub points_equal : (p q : GridPoint) → point_eq p q ≡ true → p ≡ q
+points_equal p q e =
+    let s = numbers_equal p.i p.j q.i q.j e in
+    ap (λ (i : ℕ). grid_point i p.j) s.0 ∙ ap (λ (j : ℕ). grid_point q.i j) s.1
+
+same_number : (n : ℕ) → nat_eq n n ≡ true
+same_number n = grind (arith, nat_tests)
+
+pub point_itself : (p : GridPoint) → point_eq p p ≡ true
+point_itself p = rw (same_number p.i, same_number p.j)
+
+-- ---- lists that have a point
+pub any_cons : (p k : GridPoint) (ks : List GridPoint) → Contains (k ∷ ks) p → (k ≡ p) ⊎ Contains ks p
+any_cons p k ks h = go (Contains-append_cases (k ∷ []) ks p h)
+  where
+    go : Contains (k ∷ []) p ⊎ Contains ks p → (k ≡ p) ⊎ Contains ks p
+    go (inl (zero, l, e)) = inl e
+    go (inl (suc n, l, e)) = absurd (omega (arith, l))
+    go (inr e) = inr e
+
+pub any_to : (p : GridPoint) (ks : List GridPoint) → Contains ks p → list_any (point_eq p) ks ≡ true
+any_to p [] h = absurd (omega (arith, h.1))
+any_to p (k ∷ ks) h = go (any_cons p k ks h) (any_to p ks)
+  where
+    go : (k ≡ p) ⊎ Contains ks p → (Contains ks p → list_any (point_eq p) ks ≡ true) → (point_eq p k || list_any (point_eq p) ks) ≡ true
+    go (inl e) f = ap (λ (q : GridPoint). point_eq p q || list_any (point_eq p) ks) e ∙ ap (λ (b : Bool). b || list_any (point_eq p) ks) (point_itself p)
+    go (inr h) f = or_true (point_eq p k) (list_any (point_eq p) ks) (f h)
+      where
+        or_true : (a b : Bool) → b ≡ true → (a || b) ≡ true
+        or_true true b e = refl
+        or_true false b e = e
+
+pub any_from : (p : GridPoint) (ks : List GridPoint) → list_any (point_eq p) ks ≡ true → Contains ks p
+any_from p [] h = absurd (let z = h in cc)
+any_from p (k ∷ ks) h = go (point_eq p k) refl h (any_from p ks)
+  where
+    go : (b : Bool) → point_eq p k ≡ b → (b || list_any (point_eq p) ks) ≡ true
+        → (list_any (point_eq p) ks ≡ true → Contains ks p) → Contains (k ∷ ks) p
+    go true e f next = (0, omega arith, sym (points_equal p k e))
+    go false e f next = Contains-append_right (k ∷ []) ks p (next f)
+
+-- ---- the first uses have the points of the list
+or_first : (a b : Bool) → a ≡ true → (a || b) ≡ true
+or_first true b e = refl
+or_first false b e = absurd (let z = e in cc)
+
+put_any : (p k : GridPoint) (ks : List GridPoint) → list_any (point_eq p) (insert_key point_eq ks k) ≡ (list_any (point_eq p) ks || point_eq p k)
+put_any p k ks = go (list_any (point_eq k) ks) refl
+  where
+    last : (ks : List GridPoint) → list_any (point_eq p) (ks ++ k ∷ []) ≡ (list_any (point_eq p) ks || point_eq p k)
+    last [] = or_false (point_eq p k)
+      where
+        or_false : (a : Bool) → (a || false) ≡ a
+        or_false true = refl
+        or_false false = refl
+    last (q ∷ ks) = ap (λ (b : Bool). point_eq p q || b) (last ks) ∙ or_assoc (point_eq p q) (list_any (point_eq p) ks) (point_eq p k)
+      where
+        or_assoc : (a b c : Bool) → (a || (b || c)) ≡ ((a || b) || c)
+        or_assoc true b c = refl
+        or_assoc false b c = refl
+
+    stays : (b : Bool) → point_eq p k ≡ b → list_any (point_eq k) ks ≡ true → list_any (point_eq p) ks ≡ (list_any (point_eq p) ks || b)
+    stays true e f = subst (λ (q : GridPoint). list_any (point_eq q) ks ≡ (list_any (point_eq q) ks || true)) (sym (points_equal p k e)) (rw f refl)
+    stays false e f = or_none (list_any (point_eq p) ks)
+      where
+        or_none : (a : Bool) → a ≡ (a || false)
+        or_none true = refl
+        or_none false = refl
+
+    go : (b : Bool) → list_any (point_eq k) ks ≡ b → list_any (point_eq p) (cond b ks (ks ++ k ∷ [])) ≡ (list_any (point_eq p) ks || point_eq p k)
+    go true e = stays (point_eq p k) refl e
+    go false e = last ks
+
+put_all_any : (p : GridPoint) (ks ps : List GridPoint) → list_any (point_eq p) (insert_all point_eq ks ps) ≡ (list_any (point_eq p) ks || list_any (point_eq p) ps)
+put_all_any p ks [] = or_none (list_any (point_eq p) ks)
+  where
+    or_none : (a : Bool) → a ≡ (a || false)
+    or_none true = refl
+    or_none false = refl
+put_all_any p ks (k ∷ ps) =
+    put_all_any p (insert_key point_eq ks k) ps
+    ∙ ap (λ (b : Bool). b || list_any (point_eq p) ps) (put_any p k ks)
+    ∙ or_assoc (list_any (point_eq p) ks) (point_eq p k) (list_any (point_eq p) ps)
+  where
+    or_assoc : (a b c : Bool) → ((a || b) || c) ≡ (a || (b || c))
+    or_assoc true b c = refl
+    or_assoc false b c = refl
+
+pub first_any : (p : GridPoint) (ps : List GridPoint) → list_any (point_eq p) (first_uses [] ps) ≡ list_any (point_eq p) ps
+first_any p ps = ap (list_any (point_eq p)) (sym (keys_after ps [])) ∙ put_all_any p [] ps
+
+-- ---- order
+place_of : (p : GridPoint) (ks more : List GridPoint) → list_any (point_eq p) ks ≡ false → position_or_len (point_eq p) (ks ++ p ∷ more) ≡ length ks
+place_of p [] more h = rw (point_itself p)
+place_of p (k ∷ ks) more h = (elim (point_eq p k) as (λ b. (b || list_any (point_eq p) ks) ≡ false → cond (not b) ((1 + position_or_len (point_eq p) (ks ++ p ∷ more))) 0 ≡ suc (length ks)) [
+  | true ↦ λ e. absurd (let z = e in cc)
+  | false ↦ λ e. omega (arith, place_of p ks more e)
+]) h
+
+-- the points seen are those done
+abbrev SameSeen : List GridPoint → List GridPoint → Type 0
+SameSeen seen done = (p : GridPoint) → list_any (point_eq p) seen ≡ list_any (point_eq p) done
+
+abbrev Later : List GridPoint → ℕ → GridPoint → Type 0
+Later all n p = n ≤ position_or_len (point_eq p) all
+
+abbrev Before : List GridPoint → GridPoint → GridPoint → Type 0
+Before all p q = position_or_len (point_eq p) all < position_or_len (point_eq q) all
+
+any_push : (p k : GridPoint) (ks : List GridPoint) → list_any (point_eq p) (ks ++ k ∷ []) ≡ (list_any (point_eq p) ks || point_eq p k)
+any_push p k [] = or_false (point_eq p k)
+  where
+    or_false : (a : Bool) → (a || false) ≡ a
+    or_false true = refl
+    or_false false = refl
+any_push p k (q ∷ ks) = ap (λ (b : Bool). point_eq p q || b) (any_push p k ks) ∙ or_assoc (point_eq p q) (list_any (point_eq p) ks) (point_eq p k)
+  where
+    or_assoc : (a b c : Bool) → (a || (b || c)) ≡ ((a || b) || c)
+    or_assoc true b c = refl
+    or_assoc false b c = refl
+
+seen_both : (seen done : List GridPoint) (k : GridPoint) → SameSeen seen done → SameSeen (seen ++ k ∷ []) (done ++ k ∷ [])
+seen_both seen done k s p = any_push p k seen ∙ ap (λ (b : Bool). b || point_eq p k) (s p) ∙ sym (any_push p k done)
+
+seen_more : (seen done : List GridPoint) (k : GridPoint) → SameSeen seen done → list_any (point_eq k) seen ≡ true → SameSeen seen (done ++ k ∷ [])
+seen_more seen done k s h p = go (point_eq p k) refl
+  where
+    go : (b : Bool) → point_eq p k ≡ b → list_any (point_eq p) seen ≡ list_any (point_eq p) (done ++ k ∷ [])
+    go true e =
+        subst (λ (q : GridPoint). list_any (point_eq q) seen ≡ true) (sym (points_equal p k e)) h
+        ∙ sym (any_push p k done ∙ ap (λ (b : Bool). list_any (point_eq p) done || b) e ∙ or_true (list_any (point_eq p) done))
+      where
+        or_true : (a : Bool) → (a || true) ≡ true
+        or_true true = refl
+        or_true false = refl
+    go false e = s p ∙ sym (any_push p k done ∙ ap (λ (b : Bool). list_any (point_eq p) done || b) e ∙ or_false (list_any (point_eq p) done))
+      where
+        or_false : (a : Bool) → (a || false) ≡ a
+        or_false true = refl
+        or_false false = refl
+
+push_length : (ks : List GridPoint) (k : GridPoint) → length (ks ++ k ∷ []) ≡ suc (length ks)
+push_length [] k = refl
+push_length (q ∷ ks) k = ap suc (push_length ks k)
+
+ordered : (all seen done rest : List GridPoint) → done ++ rest ≡ all → SameSeen seen done
+    → AllByRecursion (Later all (length done)) (first_uses seen rest) × Pairs (Before all) (first_uses seen rest)
+ordered all seen done [] e s = (tt, tt)
+ordered all seen done (r ∷ rest) e s =
+    go (list_any (point_eq r) seen) refl
+    (λ h. ordered all seen (done ++ r ∷ []) rest (append_assoc done (r ∷ []) rest ∙ e) (seen_more seen done r s h))
+    (ordered all (seen ++ r ∷ []) (done ++ r ∷ []) rest (append_assoc done (r ∷ []) rest ∙ e) (seen_both seen done r s))
+  where
+    weaker : (n : ℕ) → n ≡ suc (length done) → (p : GridPoint) → Later all n p → Later all (length done) p
+    weaker n f p l = omega (arith, f, l)
+
+    go : (b : Bool) → list_any (point_eq r) seen ≡ b
+        → (list_any (point_eq r) seen ≡ true
+        → AllByRecursion (Later all (length (done ++ r ∷ []))) (first_uses seen rest) × Pairs (Before all) (first_uses seen rest))
+        → AllByRecursion (Later all (length (done ++ r ∷ []))) (first_uses (seen ++ r ∷ []) rest) × Pairs (Before all) (first_uses (seen ++ r ∷ []) rest)
+        → AllByRecursion (Later all (length done)) (cond b (first_uses seen rest) (r ∷ first_uses (seen ++ r ∷ []) rest))
+        × Pairs (Before all) (cond b (first_uses seen rest) (r ∷ first_uses (seen ++ r ∷ []) rest))
+    go true h f g =
+        (all_map (Later all (length (done ++ r ∷ []))) (Later all (length done)) (weaker _ (push_length done r)) (first_uses seen rest) (f h).0, (f h).1)
+    go false h f g =
+        let at : position_or_len (point_eq r) all ≡ length done =
+        ap (position_or_len (point_eq r)) (sym e) ∙ place_of r done rest (sym (s r) ∙ h) in (
+          (omega (arith, at), all_map (Later all (length (done ++ r ∷ []))) (Later all (length done)) (weaker _ (push_length done r)) (first_uses (seen ++ r ∷ []) rest) g.0),
+          (all_map (Later all (length (done ++ r ∷ []))) (Before all r) (λ p l. omega (arith, at, push_length done r, l)) (first_uses (seen ++ r ∷ []) rest) g.0, g.1),
+        )
+
+-- ---- names
+abbrev at_number : List GridPoint → ℕ → GridPoint
+at_number ks n = slice_index_or ks n (grid_point 0 0)
+
+next_number : (k : GridPoint) (ks : List GridPoint) (n : ℕ) → at_number (k ∷ ks) (1 + n) ≡ at_number ks n
+next_number k ks n = let e : 1 + n ≡ suc n = omega arith in ap (at_number (k ∷ ks)) e
+
+pub named_is : (p : GridPoint) (ks : List GridPoint) → list_any (point_eq p) ks ≡ true → at_number ks (position_or_len (point_eq p) ks) ≡ p
+named_is p [] h = absurd (let z = h in cc)
+named_is p (k ∷ ks) h = go (point_eq p k) refl h (named_is p ks)
+  where
+    go : (b : Bool) → point_eq p k ≡ b → (b || list_any (point_eq p) ks) ≡ true
+        → (list_any (point_eq p) ks ≡ true → at_number ks (position_or_len (point_eq p) ks) ≡ p)
+        → at_number (k ∷ ks) (cond (not b) ((1 + position_or_len (point_eq p) ks)) 0) ≡ p
+    go true e f next = sym (points_equal p k e)
+    go false e f next = next_number k ks (position_or_len (point_eq p) ks) ∙ next f
+
+names_are : (ks : List GridPoint) (ts : List (Triple GridPoint)) → AreFound ks ts → map (named ks) (map (numbered ks) ts) ≡ ts
+names_are ks [] f = refl
+names_are ks (t ∷ ts) f =
+    rw (named_is t.a ks f.0, named_is t.b ks f.1, named_is t.c ks f.2, names_are ks ts f.3) refl
+
+pub numbering_law : (ts : List (Triple GridPoint)) → IsNumbering ts (first_uses [] (corners ts)) (map (numbered (first_uses [] (corners ts))) ts)
+numbering_law ts =
+    let cs = corners ts in let ks = first_uses [] cs in
+    record {
+      members = λ p. (
+        (λ h. any_from p cs (sym (first_any p cs) ∙ any_to p ks h)),
+        (λ h. any_from p ks (first_any p cs ∙ any_to p cs h)),
+      );
+      order = pairs_from (λ p q. first_use ts p < first_use ts q) ks (ordered cs [] [] cs refl (λ p. refl)).1;
+      names = names_are ks ts (subst (λ (qs : List GridPoint). AreFound qs ts) (keys_after cs []) (found ts []));
+    }
