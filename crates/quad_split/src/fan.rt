@@ -1,4 +1,4 @@
-//! Whether the triangles of one side of a node follow the heights of the grid.
+//! Whether the triangles of a node's sides follow the heights of the grid.
 
 ghost use Rattle.std.specs.Prelude.{◌≡◌, ◌+◌, ◌-◌, ◌≤◌};
 ghost use Rattle.std.specs.List.{list_all};

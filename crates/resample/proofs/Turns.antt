@@ -29,7 +29,7 @@ listed lon lat meridian parallel =
     ++ where_it_is (parallel && nat_lt 0 lat) lon (lat - 1)
     ++ where_it_is ((meridian && parallel) && nat_lt 0 lat) (lon + 359) (lat - 1)
 
-by_degrees : (place : Place) → candidates_of place ≡ listed (180 * place.p / place.d) (180 * place.q / place.d) (180 * place.p % place.d == 0) (180 * place.q % place.d == 0)
+pub by_degrees : (place : Place) → candidates_of place ≡ listed (180 * place.p / place.d) (180 * place.q / place.d) (180 * place.p % place.d == 0) (180 * place.q % place.d == 0)
 unfolding candidates_of
 by_degrees place = refl
 

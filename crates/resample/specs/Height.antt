@@ -1,5 +1,5 @@
 -- The height at a place, and the heights of a tile's grid points.
-use Rattle.std.specs.Prelude.{◌/◌, ◌%◌, ℤ, Bool, not, List, map, Option, Some, None, is_some}
+use Rattle.std.specs.Prelude.{◌≡◌, ℕ, ◌<◌, ◌/◌, ◌%◌, ℤ, pos, Bool, not, List, map, Option, Some, None, is_some, slice_index_or}
 use Rattle.std.specs.List.{filter, find, range_with_len}
 use Rattle.std.specs.FinMap.{get}
 use Rattle.terrain_base.specs.declared.square.Square.{Square}
@@ -30,6 +30,14 @@ unfoldable pub height_at : ℤ → Cells → Place → ℤ
 height_at fill cells place =
     first_height fill (map (λ square. value_at cells square place) (filter (has_cell cells) (candidates_of place)))
 
--- the heights at the tile's grid points, row by row from the south, each row from the west
+-- the height at the tile's grid point of this number, counted row by row from the south, each row from the west
+abbrev pub height_of : ℤ → Cells → TileId → ℕ → ℤ
+height_of fill cells tile k = height_at fill cells (place_of tile (k % 67) (k / 67))
+
+-- the heights at the tile's grid points, in this order
 unfoldable pub grid_of : ℤ → Cells → TileId → List ℤ
-grid_of fill cells tile = map (λ k. height_at fill cells (place_of tile (k % 67) (k / 67))) (range_with_len 0 4489)
+grid_of fill cells tile = map (height_of fill cells tile) (range_with_len 0 4489)
+
+-- so many first points of the grid have their heights
+abbrev pub HasFirst : ℤ → Cells → TileId → List ℤ → ℕ → Type 0
+HasFirst fill cells tile grid k = (n : ℕ) → n < k → slice_index_or grid n (pos 0) ≡ height_of fill cells tile n

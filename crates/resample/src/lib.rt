@@ -1,8 +1,11 @@
 //! Heights from the cells of any source: at a place, and at the grid points of a tile.
 #![tactic(auto)]
 
+mod counts;
 mod height_rule;
+mod inside;
 pub mod laws;
+mod line;
 #[cfg(test)]
 mod tests;
 mod tile;

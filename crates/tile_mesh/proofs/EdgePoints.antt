@@ -28,21 +28,21 @@ use Rattle.tile_mesh.proofs.Merges.{merge_outers}
 use Rattle.tile_mesh.proofs.Placing.{height, at, line, line_up}
 
 -- ---- tests of numbers
-equal_numbers : (a b : ℕ) → nat_eq a b ≡ true → a ≡ b
+pub equal_numbers : (a b : ℕ) → nat_eq a b ≡ true → a ≡ b
 equal_numbers a b e = grind (arith, nat_tests)
 
-number_itself : (n : ℕ) → nat_eq n n ≡ true
+pub number_itself : (n : ℕ) → nat_eq n n ≡ true
 number_itself n = grind (arith, nat_tests)
 
-or_first : (a b : Bool) → a ≡ true → (a || b) ≡ true
+pub or_first : (a b : Bool) → a ≡ true → (a || b) ≡ true
 or_first true b e = refl
 or_first false b e = absurd (let z = e in cc)
 
-or_second : (a b : Bool) → b ≡ true → (a || b) ≡ true
+pub or_second : (a b : Bool) → b ≡ true → (a || b) ≡ true
 or_second true b e = refl
 or_second false b e = e
 
-or_cases : (a b : Bool) → (a || b) ≡ true → (a ≡ true) ⊎ (b ≡ true)
+pub or_cases : (a b : Bool) → (a || b) ≡ true → (a ≡ true) ⊎ (b ≡ true)
 or_cases true b e = inl refl
 or_cases false b e = inr e
 
@@ -267,7 +267,7 @@ module _ (grid : List ℤ) (tol : ℕ) (kept : Side → List ℕ) (rises : (side
       go (inr (other, x, h, f)) = which other x h (meet side other i x (sym f))
 
 -- ---- a kept point is a corner
-abbrev Found : GridPoint → List (Triple GridPoint) → Type 0
+abbrev pub Found : GridPoint → List (Triple GridPoint) → Type 0
 Found p ts = list_any (point_eq p) (corners ts) ≡ true
 
 here : (p a b c : GridPoint) (cs : List GridPoint) → (p ≡ a) ⊎ (p ≡ b) ⊎ (p ≡ c)
@@ -295,7 +295,7 @@ here_next plane.East o n x ts = here x o x n (corners ts) (inr (inl refl))
 here_next plane.North o n x ts = here x o n x (corners ts) (inr (inr refl))
 here_next plane.West o n x ts = here x o n x (corners ts) (inr (inr refl))
 
-found_outers : (p : GridPoint) (side : plane.Side) (o n : GridPoint) (steps : List (Step GridPoint))
+pub found_outers : (p : GridPoint) (side : plane.Side) (o n : GridPoint) (steps : List (Step GridPoint))
     → list_any (point_eq p) (outers steps) ≡ true → Found p (strip side o n steps)
 found_outers p side o n [] h = absurd (let z = h in cc)
 found_outers p side o n (Outer x ∷ steps) h =
@@ -311,7 +311,7 @@ found_outers p side o n (Outer x ∷ steps) h =
 found_outers p side o n (Inner x ∷ steps) h =
     there p _ _ _ (corners (strip side o x steps)) (found_outers p side o x steps h)
 
-placed_outers : (side : Side) (steps : List (Step ℕ)) → outers (map (step_at side) steps) ≡ map (outer_at side) (outers steps)
+pub placed_outers : (side : Side) (steps : List (Step ℕ)) → outers (map (step_at side) steps) ≡ map (outer_at side) (outers steps)
 placed_outers side [] = refl
 placed_outers side (Outer x ∷ steps) = ap (λ (ps : List GridPoint). outer_at side x ∷ ps) (placed_outers side steps)
 placed_outers side (Inner x ∷ steps) = placed_outers side steps
@@ -352,7 +352,7 @@ module _ (grid : List ℤ) (tol : ℕ) (kept : Side → List ℕ) (rises : (side
           (placed_outers side (merge xs ends) ∙ ap (λ (os : List ℕ). map (outer_at side) os) (merge_outers xs ends))
           ∙ has_placed side i xs k))
 
-  kept_in_border : (side : Side) (i : ℕ) → Has (kept side) i
+  pub kept_in_border : (side : Side) (i : ℕ) → Has (kept side) i
       → Found (outer_at side i) (border_triangles (is_split grid tol) kept side)
   unfolding border_triangles inner_points
   kept_in_border side i h =

@@ -1,3 +1,4 @@
+pub mod BorderHeights
 pub mod BorderLeaves
 pub mod BorderLines
 pub mod Borders
@@ -6,14 +7,17 @@ pub mod Counts
 pub mod EdgePoints
 pub mod EdgeVertices
 pub mod FirstUses
+pub mod Following
 pub mod Framing
 pub mod InnerCorners
 pub mod InnerLists
 pub mod KeptLists
+pub mod LeafHeights
 pub mod LeafLists
 pub mod Made
 pub mod MergeOrder
 pub mod Merges
+pub mod Nearness
 pub mod Parents
 pub mod Placing
 pub mod Ranges

@@ -28,7 +28,7 @@ inner_ascend : (o n : ℕ) (ys : List ℕ) → Climbs n ys → Ascend o n (map I
 inner_ascend o n [] h = tt
 inner_ascend o n (y ∷ ys) h = (h.0, inner_ascend o y ys h.1)
 
--- the picks up to x and on, if the rest ascends from any inner point
+-- the steps up to x and on, if the rest ascends from any inner point
 after_ascends : (o n x : ℕ) (rest : List ℕ → List (Step ℕ)) → o < x → ((m : ℕ) (zs : List ℕ) → Climbs m zs → Ascend x m (rest zs)) → (ys : List ℕ) → Climbs n ys → Ascend o n (outer_after x rest ys)
 after_ascends o n x rest l f [] h = (l, f n [] h)
 after_ascends o n x rest l f (y ∷ ys) h = (elim (nat_le x y) as (λ b. Ascend o n (cond b (Outer x ∷ rest (y ∷ ys)) (Inner y ∷ outer_after x rest ys))) [

@@ -55,19 +55,19 @@ module _ (grid : List ℤ) (s : ℤ) where
   outer_along East i = refl
   outer_along North i = refl
 
-  inner_along : (side : Side) (i : ℕ) → along (plane_side side) (at (inner_at side i)) ≡ line i
+  pub inner_along : (side : Side) (i : ℕ) → along (plane_side side) (at (inner_at side i)) ≡ line i
   inner_along West i = refl
   inner_along South i = refl
   inner_along East i = refl
   inner_along North i = refl
 
-  outer_across : (side : Side) (i : ℕ) → across (plane_side side) (at (outer_at side i)) ≡ outer_line side
+  pub outer_across : (side : Side) (i : ℕ) → across (plane_side side) (at (outer_at side i)) ≡ outer_line side
   outer_across West i = refl
   outer_across South i = refl
   outer_across East i = refl
   outer_across North i = refl
 
-  inner_across : (side : Side) (i : ℕ) → across (plane_side side) (at (inner_at side i)) ≡ inner_line side
+  pub inner_across : (side : Side) (i : ℕ) → across (plane_side side) (at (inner_at side i)) ≡ inner_line side
   inner_across West i = refl
   inner_across South i = refl
   inner_across East i = refl

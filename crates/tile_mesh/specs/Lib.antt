@@ -10,3 +10,4 @@ pub mod Merging
 pub mod Numbering
 pub mod Plane
 pub mod Squares
+pub mod Tolerance

@@ -7,6 +7,7 @@ ghost use Rattle.mesh_plane.specs.Cover.{Covers};
 ghost use Rattle.tile_mesh.specs.Growth.{Grows};
 ghost use Rattle.tile_mesh.specs.Numbers.{Adds};
 ghost use Rattle.tile_mesh.specs.Plane.{edge_vertices, kept_vertices, triangles_in};
+ghost use Rattle.tile_mesh.specs.Tolerance.{KeepsTolerance};
 ghost use Rattle.tile_mesh.specs.Rule.{border_triangles, triangles_of};
 
 use crate::builder::Builder;
@@ -80,6 +81,7 @@ pub fn mesh_of(alloc: Global, grid: &Grid, z: u8) -> Result<TileMesh, NoMemory>
     ensures covers { IfOk result (λ mesh. Covers (triangles_in mesh)) }
     ensures edges { let kept = kept_vertices grid.now (tolerance_of z) in
         IfOk result (λ mesh. (side : Side) → edge_vertices mesh side ≡ kept side) }
+    ensures tolerance { IfOk result (KeepsTolerance grid.now (tolerance_of z)) }
 {
     let tol = tolerance(z);
     let splits = split_map(grid, tol);

@@ -9,6 +9,8 @@ use Rattle.mesh_plane.specs.Cover.{Covers}
 use Rattle.tile_mesh.specs.declared.side.Side.{Side}
 use Rattle.tile_mesh.specs.Plane.{edge_vertices, kept_vertices, triangles_in}
 use Rattle.tile_mesh.specs.Rule.{triangles_of}
+use Rattle.tile_mesh.specs.Tolerance.{KeepsTolerance}
+use Rattle.tile_mesh.proofs.Following.{mesh_keeps_tolerance}
 use Rattle.tile_mesh.proofs.EdgeVertices.{edges_are_kept}
 use Rattle.tile_mesh.proofs.Made.{is_mesh, same_split, if_ok, mesh_covers}
 use Rattle.tile_mesh.proofs.build.mesh_of.Goals as goal
@@ -33,4 +35,7 @@ returns c =
       edges = if_ok c.finish.result is
           (λ mesh. (side : Side) → edge_vertices mesh side ≡ kept_vertices grid (tolerance_of c.args.z) side)
           (λ mesh e side. ap (λ (m : Mesh). edge_vertices m side) e ∙ edges_are_kept grid c.args.z side) exact;
+      tolerance = if_ok c.finish.result is (λ mesh. KeepsTolerance grid (tolerance_of c.args.z) mesh)
+          (λ mesh e. subst (λ (m : Mesh). KeepsTolerance grid (tolerance_of c.args.z) m) (sym e)
+          (mesh_keeps_tolerance grid c.args.z)) exact;
     }

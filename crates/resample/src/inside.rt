@@ -1,0 +1,162 @@
+// The height at a place that lies inside one square.
+ghost use Rattle.std.specs.Prelude.{◌≡◌, ℕ, ◌+◌, ◌*◌, ◌<◌, Some, IfOk, IsFalse, IsTrue, IsOk};
+ghost use Rattle.std.specs.FinMap as map;
+ghost use Rattle.terrain_base.specs.Level.{rows_of, columns_of};
+ghost use Rattle.terrain_base.specs.Height.{IsHeight};
+ghost use Rattle.tms_tree.specs.Place.{IsPlace};
+ghost use Rattle.cell_mosaic.specs.Cells.{Cells, HasPost, IsPost, post_at};
+ghost use Rattle.cell_mosaic.specs.Source.{FaultHasCause, TroubleIsShown, Keeps};
+ghost use Rattle.cell_mosaic.specs.Value.{unless_ignored, quad_round, ArePosts, value_at};
+ghost use Rattle.resample.specs.Height.{height_at, height_or};
+ghost use Rattle.resample.specs.Line.{IsLine, LiesIn, AreCounts};
+
+use crate::counts::{Counts, columns_in, rows_in};
+use crate::line::{Line, turn_to};
+use cell_mosaic::{PostSource, Quad, SourceFault, blend};
+use terrain_base::{CellLevel, Post, Square, Store};
+use tms_tree::Place;
+
+/// The post, or a void in its place where it is ignored.
+fn post_unless<P: PostSource, S: Store>(
+    is_ignored: bool,
+    src: &mut P,
+    store: &mut S,
+    square: Square,
+    col: u16,
+    row: u16,
+) -> Result<Post, SourceFault>
+    requires held { IsFalse is_ignored → HasPost (P.shapes src.old) square col row }
+    ensures value { IfOk result (λ post. (told : Cells) → P.cells src.old (S.holds store.old) ≡ Some told → post ≡ unless_ignored is_ignored (post_at told square col row)) }
+    ensures height { IfOk result IsPost }
+    ensures sure { IsTrue (P.sure src.old) → IsOk result }
+    ensures shown { TroubleIsShown (P.shapes src.old) (S.holds store.old) (P.cells src.old (S.holds store.old)) result }
+    ensures cause { FaultHasCause (S.faults store.old) (S.faults store.new) result }
+    ensures keeps { Keeps P.cells P.shapes P.sure src.old src.new (S.holds store.old) (S.holds store.new) (S.log store.old) (S.log store.new) }
+{
+    if is_ignored {
+        return Ok(Post::Void);
+    }
+    src.post(store, square, col, row)
+}
+
+/// The posts round a point, with voids in place of those that are ignored.
+fn quad<P: PostSource, S: Store>(
+    src: &mut P,
+    store: &mut S,
+    square: Square,
+    col: u16,
+    row: u16,
+    on_column: bool,
+    on_row: bool,
+) -> Result<Quad, SourceFault>
+    requires sw { HasPost (P.shapes src.old) square col row }
+    requires se { IsFalse on_column → HasPost (P.shapes src.old) square (col + 1) row }
+    requires nw { IsFalse on_row → HasPost (P.shapes src.old) square col (row + 1) }
+    requires small { (col < 3601) × (row < 3601) }
+    ensures value { IfOk result (λ quad. (told : Cells) → P.cells src.old (S.holds store.old) ≡ Some told → quad ≡ quad_round (post_at told square) col row on_column on_row) }
+    ensures height { IfOk result ArePosts }
+    ensures sure { IsTrue (P.sure src.old) → IsOk result }
+    ensures shown { TroubleIsShown (P.shapes src.old) (S.holds store.old) (P.cells src.old (S.holds store.old)) result }
+    ensures cause { FaultHasCause (S.faults store.old) (S.faults store.new) result }
+    ensures keeps { Keeps P.cells P.shapes P.sure src.old src.new (S.holds store.old) (S.holds store.new) (S.log store.old) (S.log store.new) }
+{
+    let sw = src.post(store, square, col, row)?;
+    let se = post_unless(on_column, src, store, square, col + 1, row)?;
+    let nw = post_unless(on_row, src, store, square, col, row + 1)?;
+    let ne = post_unless(on_column || on_row, src, store, square, col + 1, row + 1)?;
+    Ok(Quad { sw, se, nw, ne })
+}
+
+/// The post's metres, or the fill for a void.
+fn metres_or(post: Post, fill: i16) -> i16
+    requires post { IsPost post }
+    requires fill { IsHeight fill }
+    ensures value { result ≡ height_or fill (Some post) }
+    ensures height { IsHeight result }
+{
+    match post {
+        Post::Metres(metres) => metres,
+        Post::Void => fill,
+    }
+}
+
+/// The value at the place in the square's cell, by the two grid lines through it.
+fn value_between<P: PostSource, S: Store>(
+    src: &mut P,
+    store: &mut S,
+    square: Square,
+    level: CellLevel,
+    place: Place,
+    east: &Line,
+    north: &Line,
+) -> Result<Post, SourceFault>
+    requires place { IsPlace place }
+    requires known { map.get (P.shapes src.old) square ≡ Some level }
+    requires east { LiesIn (180 * place.p) place.d square.lon (columns_of square level) east.now }
+    requires north { LiesIn (180 * place.q) place.d square.lat (rows_of level) north.now }
+    ensures value { IfOk result (λ post. (told : Cells) → P.cells src.old (S.holds store.old) ≡ Some told → post ≡ value_at told square place) }
+    ensures height { IfOk result IsPost }
+    ensures sure { IsTrue (P.sure src.old) → IsOk result }
+    ensures shown { TroubleIsShown (P.shapes src.old) (S.holds store.old) (P.cells src.old (S.holds store.old)) result }
+    ensures cause { FaultHasCause (S.faults store.old) (S.faults store.new) result }
+    ensures keeps { Keeps P.cells P.shapes P.sure src.old src.new (S.holds store.old) (S.holds store.new) (S.log store.old) (S.log store.new) }
+{
+    let unit = place.d as u128;
+    let quad = quad(
+        src,
+        store,
+        square,
+        east.post,
+        north.post,
+        east.beyond == 0,
+        north.beyond == 0,
+    )?;
+    Ok(blend(&quad, east.beyond as u128, unit, north.beyond as u128, unit))
+}
+
+/// The square at these degrees.
+fn square_at(lon: u64, lat: u64) -> Square
+    requires lon { lon < 360 }
+    requires lat { lat < 180 }
+    ensures lon { result.lon ≡ lon }
+    ensures lat { result.lat ≡ lat }
+{
+    Square {
+        lat: lat as u16,
+        lon: lon as u16,
+    }
+}
+
+/// The height at a place that lies on no whole degree, by the two grid lines through it.
+pub(crate) fn inside<P: PostSource, S: Store>(
+    src: &mut P,
+    store: &mut S,
+    fill: i16,
+    place: Place,
+    east: &mut Line,
+    north: &mut Line,
+    counts: &Counts,
+) -> Result<i16, SourceFault>
+    requires fill { IsHeight fill }
+    requires place { IsPlace place }
+    requires east { IsLine (180 * place.p) place.d east.old × (0 < east.old.rest) }
+    requires north { IsLine (180 * place.q) place.d north.old × (0 < north.old.rest) }
+    requires counts { AreCounts north.old.degrees counts.now }
+    ensures value { IfOk result (λ metres. (told : Cells) → P.cells src.old (S.holds store.old) ≡ Some told → metres ≡ height_at fill told place) }
+    ensures height { IfOk result IsHeight }
+    ensures east { (units : ℕ) → IsLine units place.d east.old → IsLine units place.d east.new }
+    ensures north { (units : ℕ) → IsLine units place.d north.old → IsLine units place.d north.new }
+    ensures sure { IsTrue (P.sure src.old) → IsOk result }
+    ensures shown { TroubleIsShown (P.shapes src.old) (S.holds store.old) (P.cells src.old (S.holds store.old)) result }
+    ensures cause { FaultHasCause (S.faults store.old) (S.faults store.new) result }
+    ensures keeps { Keeps P.cells P.shapes P.sure src.old src.new (S.holds store.old) (S.holds store.new) (S.log store.old) (S.log store.new) }
+{
+    let square = square_at(east.degrees, north.degrees);
+    let Some(level) = src.shape(square) else {
+        return Ok(fill);
+    };
+    turn_to(east, columns_in(counts, level), place.d);
+    turn_to(north, rows_in(level), place.d);
+    let post = value_between(src, store, square, level, place, east, north)?;
+    Ok(metres_or(post, fill))
+}
