@@ -1,8 +1,10 @@
 //! The work that the benchmarks time. Its words are a kind of work and how often it is done; it prints the kind, the
-//! number, and a sum over all results. The kind `layer` prints the layer text of so many cells instead.
+//! number, and a sum over all results. The kind `layer` prints the layer text of so many cells instead, and the kind
+//! `sample` how many triangles the meshes of so many grids have, and hashes of their vertices, triangles and edges.
 #![tactic(auto)]
 
 mod boxes;
+mod grid_sample;
 mod grids;
 mod layers;
 mod meshes;
@@ -13,10 +15,19 @@ use std::env;
 use std::io::{self, Write};
 use terrain_base::NoMemory;
 
+/// What is printed for the meshes of so many grids.
+fn sample(alloc: Global, count: u32) -> Result<Vec<u8>, NoMemory> {
+    let said = grid_sample::of_grids(alloc, count)?;
+    let (points, triangles, edges) = (said.points, said.triangles, said.edges);
+    let line = format!(in alloc; "{} triangles {points} {triangles} {edges}\n", said.count)?;
+    Ok(line.into_bytes())
+}
+
 /// What is printed for so many results of this kind of work.
 fn report(alloc: Global, kind: &str, count: u32) -> Result<Vec<u8>, NoMemory> {
     let sum = match kind {
         "layer" => return layers::text(alloc, count),
+        "sample" => return sample(alloc, count),
         "boxes" => boxes::sum(count),
         "grids" => grids::sum(alloc, count)?,
         "dense" => meshes::sum(alloc, Kind::Dense, count)?,
