@@ -1,12 +1,12 @@
 #!/usr/bin/env python3
 """Times the work of the program's libraries that no command does by itself yet.
 
-usage: bench/library.py [KIND [PEER WORD..]]
+usage: bench/library.py [KIND [PEER WORD.. [-- PEER WORD..]]]
 
 KIND is `boxes` (boxes of places in Earth-fixed coordinates), `dense` or `hilly` (meshes of a grid of heights), `grids`
 (grids of heights over a level 2 cell), or left out, which times each. Prints how many results a second come, from the best of
-five runs, less that of a run that makes none. Given a PEER's command that makes one such result, it prints that command's
-seconds too.
+five runs, less that of a run that makes none. Given a PEER's command that makes one such result, and behind `--` one that
+makes none, it prints the peer's seconds, the first less the second, and the ratio.
 """
 
 import subprocess
@@ -31,6 +31,13 @@ def best(words):
     return min(timing.timed(words)[0] for _ in range(timing.RUNS))
 
 
+def of_peer(words):
+    """The seconds of the command before `--`, less those of the one behind it."""
+    cut = words.index("--") if "--" in words else len(words)
+    none = words[cut + 1 :]
+    return best(words[:cut]) - (best(none) if none else 0)
+
+
 def main():
     kinds = sys.argv[1:2] or list(COUNTS)
     program = built()
@@ -41,7 +48,8 @@ def main():
         if kind == "grids":
             line += f", {count * 67 * 67 / seconds / 1e6:.1f} million grid points a second"
         if sys.argv[2:]:
-            line += f", peer {best(sys.argv[2:]):.4f} s for one"
+            peer = of_peer(sys.argv[2:])
+            line += f", peer {peer * 1e6:.0f} microseconds for one, ratio {seconds / count / peer:.2f}"
         print(line)
 
 
