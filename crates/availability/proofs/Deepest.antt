@@ -26,6 +26,7 @@ made_within cap (cell ∷ cells) tile h =
     ]
 
 pub none_deeper : (cap : ℕ) (cells : List Summary) (tile : TileId) → exists_of cap cells tile ≡ true → tile.z ≤ deepest_of cap cells
+unfolding exists_of
 none_deeper cap cells tile h =
     elim (or_cases (tile.z == 0) (list_any (makes_of cap tile) cells) h) [
       | inl e ↦ let top = eqb-true tile.z 0 e in omega (arith, top)
@@ -98,6 +99,7 @@ tile_there cap cells z r c h =
     (tile.0, tile.1, sym (at_numbers cap cells tile.0 z r c tile.1 tile.2 tile.3) ∙ and_from _ _ is (or_right (z == 0) _ h))
 
 pub one_as_deep : (cap : ℕ) (cells : List Summary) → (tile : TileId) × (tile.z ≡ deepest_of cap cells) × (exists_of cap cells tile ≡ true)
+unfolding exists_of
 one_as_deep cap cells =
     elim (place_at cap cells (deepest_of cap cells) refl) [
       | inl e ↦ (top_tile.0, top_tile.1 ∙ sym e, or_left _ _ (eq-eqb _ _ top_tile.1))

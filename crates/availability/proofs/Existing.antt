@@ -22,6 +22,7 @@ makes_from : (cap : ℕ) (tile : TileId) (cell : Summary) → Makes cap tile cel
 makes_from cap tile cell h = and_from _ _ (le-leb _ _ h.deep) ((overlaps_law tile cell.square).1 h.overlaps)
 
 exists_to : (cap : ℕ) (cells : List Summary) (tile : TileId) → exists_of cap cells tile ≡ true → Exists cap cells tile
+unfolding exists_of
 exists_to cap cells tile h =
     elim (or_cases (tile.z == 0) (list_any (makes_of cap tile) cells) h) [
       | inl e ↦ inl (eqb-true _ _ e)
@@ -34,6 +35,7 @@ pub any_from : {X : Type 0} (p : X → Bool) (xs : List X) (x : X) → Contains 
 any_from p xs x h e = list_any_at p xs h.0 x h.1 (ap p h.2 ∙ e)
 
 exists_from : (cap : ℕ) (cells : List Summary) (tile : TileId) → Exists cap cells tile → exists_of cap cells tile ≡ true
+unfolding exists_of
 exists_from cap cells tile (inl e) = or_left _ _ (eq-eqb _ _ e)
 exists_from cap cells tile (inr h) = or_right (tile.z == 0) _ (any_from (makes_of cap tile) cells h.0 h.1 (makes_from cap tile h.0 h.2))
 
@@ -43,6 +45,7 @@ exists_law cap cells tile = (exists_to cap cells tile, exists_from cap cells til
 -- ---- above the cap
 
 pub above_cap : (cap : ℕ) (cells : List Summary) (tile : TileId) → cap < tile.z → exists_of cap cells tile ≡ false
+unfolding exists_of
 above_cap cap cells tile h =
     or_from (tile.z == 0) _ (ne_eqb tile.z 0 (λ e. omega arith))
     (list_any_none (makes_of cap tile) cells (λ k d in_range. and_left _ _ (lt-leb tile.z (reach_of cap (get_or cells k d)) (omega arith))))
@@ -71,6 +74,7 @@ far_makes_none cap tile cell h = false_from_ne_true _ (λ e. both_ways (touches_
 -- ---- locality
 
 more_exists : (cap : ℕ) (cells others : List Summary) (tile : TileId) → HasNear tile cells others → exists_of cap cells tile ≡ true → exists_of cap others tile ≡ true
+unfolding exists_of
 more_exists cap cells others tile near h =
     elim (or_cases (tile.z == 0) (list_any (makes_of cap tile) cells) h) [
       | inl e ↦ or_left _ _ e
@@ -91,6 +95,7 @@ any_without p front back x h = list_any-append p front (x ∷ back) ∙ rw h (sy
 
 pub far_added : (cap : ℕ) (front back : List Summary) (cell : Summary) (tile : TileId) → touches_of tile cell.square ≡ false
     → exists_of cap (front ++ cell ∷ back) tile ≡ exists_of cap (front ++ back) tile
+unfolding exists_of
 far_added cap front back cell tile h = ap (λ t. (tile.z == 0) || t) (any_without (makes_of cap tile) front back cell (far_makes_none cap tile cell h))
 
 pub far_replaced : (cap : ℕ) (front back : List Summary) (cell other : Summary) (tile : TileId) → touches_of tile cell.square ≡ false → touches_of tile other.square ≡ false
@@ -107,6 +112,7 @@ is_tile_of : (tile : TileId) → is_tile tile.z tile.y tile.x ≡ true
 is_tile_of tile = and_from _ _ (le-leb _ _ tile.z_in_range) (and_from _ _ (lt-ltb _ _ tile.y_in_range) (lt-ltb _ _ tile.x_in_range))
 
 pub exists_at_tile : (cap : ℕ) (cells : List Summary) (tile : TileId) → exists_at cap cells tile.z tile.y tile.x ≡ exists_of cap cells tile
+unfolding exists_of
 exists_at_tile cap cells tile = rw (is_tile_of tile, makes_same cap tile cells)
 
 -- the law at an answer of the test

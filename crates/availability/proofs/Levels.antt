@@ -1,13 +1,12 @@
 -- The joined runs of a level are its maximal runs.
-use Rattle.std.specs.Prelude.{◌≡◌, ℕ, ◌+◌, ◌*◌, ◌^◌, ◌<◌, ◌≤◌, ◌==◌, nat_le, nat_lt, Bool, true, false, ◌&&◌, ◌||◌, List, [], ◌∷◌}
-use Rattle.std.specs.List.{list_any, All}
-use Rattle.std.specs.List.Sorted.{IsPermutation, IsSortedBy}
+use Rattle.std.specs.Prelude.{◌≡◌, ℕ, ◌+◌, ◌*◌, ◌^◌, ◌<◌, ◌≤◌, ◌==◌, nat_le, nat_lt, Bool, true, false, ◌&&◌, ◌||◌, List}
+use Rattle.std.specs.List.{list_any}
+use Rattle.std.specs.List.Sorted.{IsPermutation}
 use Rattle.std.proofs.Common.{arith, refl, sym, ◌∙◌}
 use Rattle.std.proofs.lemmas.Bool.{and_parts, and_from, leb-true, le-leb, ltb-true, lt-ltb, eqb-true, or_right}
 use Rattle.std.proofs.lemmas.Bool.Decides.{nat_tests}
-use Rattle.std.proofs.lemmas.List.Elements.{recursion_from_All}
 use Rattle.std.proofs.lemmas.List.Folds.{Any-from_list_any}
-use Rattle.std.proofs.lemmas.List.Sorted.{list_any-IsPermutation, All-permutation}
+use Rattle.std.proofs.lemmas.List.Sorted.{list_any-IsPermutation}
 use Rattle.std.proofs.Math.Nat.{mul-le-mul_right}
 use Rattle.terrain_base.specs.Level.{depth_of}
 use Rattle.terrain_base.specs.declared.level.CellLevel.{CellLevel}
@@ -18,11 +17,9 @@ use Rattle.tms_tree.proofs.Touching.{doubled}
 use Rattle.availability.specs.declared.row_run.RowRun.{RowRun}
 use Rattle.availability.specs.Crossing.{is_top}
 use Rattle.availability.specs.Existence.{reach_of, is_tile, makes_at, exists_at}
-use Rattle.availability.specs.Merge.{merged_of}
-use Rattle.availability.specs.Runs.{has_at, is_in_runs, IsNonempty, AreRuns}
-use Rattle.availability.proofs.Ascending.{Ascend, nonempty_of, apart_of}
+use Rattle.availability.specs.Merge.{AreJoined}
+use Rattle.availability.specs.Runs.{has_at, is_in_runs, AreRuns}
 use Rattle.availability.proofs.Scans.{or_false, and_true}
-use Rattle.availability.proofs.Merges.{run_less, rise_from, merged_places, merged_ascend}
 
 -- ---- what a cell makes is a tile
 
@@ -73,24 +70,14 @@ exists_places cap z row column cells =
 
 -- ---- sorted and joined
 
-merged_all : (sorted : List RowRun) (row column : ℕ) → IsSortedBy run_less sorted → is_in_runs (merged_of sorted) row column ≡ is_in_runs sorted row column
-merged_all [] row column h = refl
-merged_all (run ∷ later) row column h = merged_places run later row column (rise_from (run ∷ later) h)
-
-merged_apart : (sorted : List RowRun) → IsSortedBy run_less sorted → All IsNonempty sorted → Ascend (merged_of sorted)
-merged_apart [] h n = tt
-merged_apart (run ∷ later) h n = merged_ascend run later (rise_from (run ∷ later) h) (recursion_from_All IsNonempty (run ∷ later) n)
-
-pub are_runs : (cap z : ℕ) (cells : List Summary) (made sorted : List RowRun)
+pub are_runs : (cap z : ℕ) (cells : List Summary) (made sorted runs : List RowRun)
     → ((row column : ℕ) → is_in_runs made row column ≡ (((z == 0) && is_top row column) || list_any (makes_at cap z row column) cells))
-    → All IsNonempty made → IsPermutation made sorted → IsSortedBy run_less sorted → AreRuns cap cells z (merged_of sorted)
-are_runs cap z cells made sorted places nonempty moved order =
-    let ascend = merged_apart sorted order (All-permutation IsNonempty made sorted moved nonempty) in
-    record {
-      nonempty = nonempty_of (merged_of sorted) ascend;
-      apart = apart_of (merged_of sorted) ascend;
-      exact = λ row column. merged_all sorted row column order
-          ∙ sym (list_any-IsPermutation (has_at row column) made sorted moved)
-          ∙ places row column
-          ∙ exists_places cap z row column cells;
-    }
+    → IsPermutation made sorted → AreJoined sorted runs → AreRuns cap cells z runs
+are_runs cap z cells made sorted runs places moved joined = record {
+  nonempty = joined.nonempty;
+  apart = joined.apart;
+  exact = λ row column. joined.places row column
+      ∙ sym (list_any-IsPermutation (has_at row column) made sorted moved)
+      ∙ places row column
+      ∙ exists_places cap z row column cells;
+}

@@ -9,3 +9,4 @@ pub mod Counts
 pub mod Texts
 pub mod Deepest
 pub mod TileLists
+pub mod Listings

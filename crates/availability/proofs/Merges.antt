@@ -1,26 +1,46 @@
 -- The joined runs have the places of the sorted ones, and lie apart.
-use Rattle.std.specs.Prelude.{◌≡◌, ℕ, ◌+◌, ◌-◌, ◌<◌, ◌≤◌, ◌==◌, nat_le, nat_lt, max, ◌⊎◌, Bool, true, false, ◌&&◌, ◌||◌, ⊤, List, [], ◌∷◌, suc}
-use Rattle.std.specs.List.{AllByRecursion}
+use Rattle.std.specs.Prelude.{◌≡◌, ℕ, ◌+◌, ◌-◌, ◌<◌, ◌≤◌, ◌==◌, nat_le, nat_lt, max, Bool, true, false, ◌&&◌, ◌||◌, ⊤, List, [], ◌∷◌, ◌++◌, length, drop, suc, if◌then◌else◌}
+use Rattle.std.specs.List.{All, AllPairs, AllByRecursion}
 use Rattle.std.specs.List.Sorted.{IsSortedBy}
 use Rattle.std.specs.Ordering.{nat_cmp, ordering_then, is_lt}
-use Rattle.std.proofs.Common.{arith, inl, inr, refl, sym, ap, ◌∙◌, add-one}
-use Rattle.std.proofs.lemmas.Bool.{and_parts, and_cases, leb-true, leb-false, eqb-true, eqb-false, eq-eqb, lt-ltb, le-ltb, cond_both, cases_order, cases_lt, both_ways}
+use Rattle.std.proofs.Common.{arith, inl, inr, refl, sym, ap, subst, ◌∙◌, add-one}
+use Rattle.std.proofs.lemmas.Bool.{and_parts, and_cases, leb-true, leb-false, eqb-true, eqb-false, eq-eqb, lt-ltb, le-ltb, cond_both, cases_Bool, cases_order, cases_lt, both_ways}
 use Rattle.std.proofs.lemmas.Bool.Decides.{nat_tests}
+use Rattle.std.proofs.lemmas.List.{append_assoc, drop_all}
+use Rattle.std.proofs.lemmas.List.Elements.{All-from_recursion, recursion_from_All}
+use Rattle.std.proofs.lemmas.List.Kept.{AllPairs-cons}
 use Rattle.availability.specs.declared.row_run.RowRun.{RowRun}
 use Rattle.availability.specs.Runs.{has_at, is_in_runs, IsNonempty, IsApart}
-use Rattle.availability.specs.Merge.{joins_of, merged_from}
-use Rattle.availability.proofs.Ascending.{Ascend, each}
-
--- the next run does not begin before this one
-abbrev pub IsBehind : RowRun → RowRun → Type 0
-IsBehind run next = (run.row < next.row) ⊎ ((run.row ≡ next.row) × (run.start ≤ next.start))
+use Rattle.availability.specs.Merge.{IsBehind, joins_of, grown_of, Takes, AreJoined}
+use Rattle.availability.proofs.Ascending.{Ascend, each, nonempty_of, apart_of}
 
 abbrev pub Rise : List RowRun → Type 0
 Rise [] = ⊤
 Rise (run ∷ later) = AllByRecursion (IsBehind run) later × Rise later
 
-abbrev grown : RowRun → RowRun → RowRun
-grown run next = record { row = run.row; start = run.start; end = max run.end next.end }
+-- ---- joined from the front
+
+abbrev pub merged_from : RowRun → List RowRun → List RowRun
+merged_from run [] = run ∷ []
+merged_from run (next ∷ later) = if joins_of run next then merged_from (grown_of run next) later else run ∷ merged_from next later
+
+abbrev pub merged_of : List RowRun → List RowRun
+merged_of [] = []
+merged_of (run ∷ later) = merged_from run later
+
+-- what is done, and what later runs make of the taken one, are the whole
+pub take_one : (run next grown : RowRun) (old new later : List RowRun) → Takes run next grown old new → new ++ merged_from grown later ≡ old ++ merged_from run (next ∷ later)
+take_one run next grown old new later h =
+    elim (cases_Bool (joins_of run next)) [
+      | inl e ↦ rw (h.run_is, h.done_are, e) refl
+      | inr e ↦ rw (h.run_is, h.done_are, e) (append_assoc old (run ∷ []) (merged_from next later))
+    ]
+
+-- none is left to take
+pub all_taken : (first run : RowRun) (rest sorted done whole : List RowRun) (i : ℕ) → sorted ≡ first ∷ rest → done ++ merged_from run (drop i rest) ≡ merged_from first rest
+    → length rest ≤ i → whole ≡ done ++ run ∷ [] → whole ≡ merged_of sorted
+all_taken first run rest sorted done whole i is taken none e =
+    e ∙ sym (ap (λ left. done ++ merged_from run left) (drop_all i rest none)) ∙ taken ∙ ap merged_of (sym is)
 
 -- ---- what joining says
 
@@ -59,7 +79,7 @@ split true false b x = refl
 split false a b x = refl
 
 grown_has : (run next : RowRun) (row column : ℕ) (x : Bool) → Joins run next → IsBehind run next
-    → (has_at row column (grown run next) || x) ≡ (has_at row column run || (has_at row column next || x))
+    → (has_at row column (grown_of run next) || x) ≡ (has_at row column run || (has_at row column next || x))
 grown_has run next row column x h (inl g) = absurd (omega (arith, h.row_is))
 grown_has run next row column x h (inr g) =
     ap (λ b. ((run.row == row) && b) || x) (between_both run.start run.end next.start next.end column g.1 h.near)
@@ -69,9 +89,9 @@ grown_has run next row column x h (inr g) =
 pub merged_places : (run : RowRun) (later : List RowRun) (row column : ℕ) → Rise (run ∷ later) → is_in_runs (merged_from run later) row column ≡ is_in_runs (run ∷ later) row column
 merged_places run [] row column h = refl
 merged_places run (next ∷ later) row column h =
-    cond_both (joins_of run next) (merged_from (grown run next) later) (run ∷ merged_from next later)
+    cond_both (joins_of run next) (merged_from (grown_of run next) later) (run ∷ merged_from next later)
     (λ list. is_in_runs list row column ≡ is_in_runs (run ∷ next ∷ later) row column)
-    (λ e. merged_places (grown run next) later row column (h.0.1, h.1.1) ∙ grown_has run next row column (is_in_runs later row column) (joins_parts run next e) h.0.0)
+    (λ e. merged_places (grown_of run next) later row column (h.0.1, h.1.1) ∙ grown_has run next row column (is_in_runs later row column) (joins_parts run next e) h.0.0)
     (λ e. ap (λ b. has_at row column run || b) (merged_places next later row column h.1))
 
 -- ---- they lie apart
@@ -79,18 +99,18 @@ merged_places run (next ∷ later) row column h =
 apart_kept : (a run : RowRun) (later : List RowRun) → IsApart a run → AllByRecursion (IsApart a) later → AllByRecursion (IsApart a) (merged_from run later)
 apart_kept a run [] h g = (h, tt)
 apart_kept a run (next ∷ later) h g =
-    cond_both (joins_of run next) (merged_from (grown run next) later) (run ∷ merged_from next later) (AllByRecursion (IsApart a))
-    (λ e. apart_kept a (grown run next) later h g.1)
+    cond_both (joins_of run next) (merged_from (grown_of run next) later) (run ∷ merged_from next later) (AllByRecursion (IsApart a))
+    (λ e. apart_kept a (grown_of run next) later h g.1)
     (λ e. (h, apart_kept a next later g.0 g.1))
 
-grown_nonempty : (run next : RowRun) → IsNonempty run → IsNonempty (grown run next)
+grown_nonempty : (run next : RowRun) → IsNonempty run → IsNonempty (grown_of run next)
 grown_nonempty run next h = omega arith
 
 pub merged_ascend : (run : RowRun) (later : List RowRun) → Rise (run ∷ later) → AllByRecursion IsNonempty (run ∷ later) → Ascend (merged_from run later)
 merged_ascend run [] h n = (n.0, tt, tt)
 merged_ascend run (next ∷ later) h n =
-    cond_both (joins_of run next) (merged_from (grown run next) later) (run ∷ merged_from next later) Ascend
-    (λ e. merged_ascend (grown run next) later (h.0.1, h.1.1) (grown_nonempty run next n.0, n.1.1))
+    cond_both (joins_of run next) (merged_from (grown_of run next) later) (run ∷ merged_from next later) Ascend
+    (λ e. merged_ascend (grown_of run next) later (h.0.1, h.1.1) (grown_nonempty run next n.0, n.1.1))
     (λ e.
     let far : IsApart run next = apart_unless run next e h.0.0 in
     (n.0, apart_kept run next later far (each (IsBehind next) (IsApart run) (λ x b. behind_on run next x far b) later h.1.0), merged_ascend next later h.1 n.1))
@@ -140,3 +160,25 @@ rise_from (run ∷ next ∷ later) h =
     let first : IsBehind run next = behind_unless run next (h 0 run (omega arith) (omega arith)) in
     let rest = rise_from (next ∷ later) (λ k d low high. rw add-one (rw add-one at (h (suc k) d (omega arith) (omega arith)))) in
     ((first, behind_all run next later first rest.0), rest)
+
+pub pairs_from : (runs : List RowRun) → Rise runs → AllPairs IsBehind runs
+pairs_from [] h = λ i j d lt within. absurd (omega arith)
+pairs_from (run ∷ later) h = AllPairs-cons IsBehind run later (All-from_recursion (IsBehind run) later h.0) (pairs_from later h.1)
+
+rise_of : (runs : List RowRun) → AllPairs IsBehind runs → Rise runs
+rise_of [] h = tt
+rise_of (run ∷ later) h = (
+  recursion_from_All (IsBehind run) later (λ k d within. h 0 (suc k) d (omega arith) (omega arith)),
+  rise_of later (λ i j d lt within. h (suc i) (suc j) d (omega arith) (omega arith)),
+)
+
+-- ---- the whole
+
+joined_from : (sorted : List RowRun) → Rise sorted → AllByRecursion IsNonempty sorted → Ascend (merged_of sorted) × ((row column : ℕ) → is_in_runs (merged_of sorted) row column ≡ is_in_runs sorted row column)
+joined_from [] h n = (tt, λ row column. refl)
+joined_from (run ∷ later) h n = (merged_ascend run later h n, λ row column. merged_places run later row column h)
+
+pub are_joined : (sorted runs : List RowRun) → All IsNonempty sorted → AllPairs IsBehind sorted → runs ≡ merged_of sorted → AreJoined sorted runs
+are_joined sorted runs n h e =
+    let both = joined_from sorted (rise_of sorted h) (recursion_from_All IsNonempty sorted n) in
+    subst (AreJoined sorted) (sym e) (record { nonempty = nonempty_of (merged_of sorted) both.0; apart = apart_of (merged_of sorted) both.0; places = both.1 })

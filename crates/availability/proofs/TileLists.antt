@@ -111,6 +111,7 @@ listed_within cap cells tiles h tile there =
     ]
 
 pub list_count : (cap : ℕ) (cells : List Summary) (tiles : List TileId) → ListsTiles cap cells tiles → length tiles ≡ tile_count_of cap cells
+unfolding tile_count_of
 list_count cap cells tiles h =
     sym (list_volume tiles (cap + 1) h.once (listed_within cap cells tiles h))
     ∙ sum_same (λ z. count_of (λ r c. list_any (at_place z r c) tiles) (2 ^ (z + 1)) (2 ^ z)) (λ z. count_of (exists_at cap cells z) (2 ^ (z + 1)) (2 ^ z))

@@ -20,7 +20,7 @@ abbrev pub level_count_of : ℕ → List Summary → ℕ → ℕ
 level_count_of cap cells z = count_of (exists_at cap cells z) (2 ^ (z + 1)) (2 ^ z)
 
 -- how many tiles of the levels from 0 to the cap exist
-abbrev pub tile_count_of : ℕ → List Summary → ℕ
+unfoldable pub tile_count_of : ℕ → List Summary → ℕ
 tile_count_of cap cells = sum_below (level_count_of cap cells) (cap + 1)
 
 -- how many columns a run has

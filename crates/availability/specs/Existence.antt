@@ -24,7 +24,7 @@ Exists cap cells tile = (tile.z ≡ 0) ⊎ ((cell : Summary) × Contains cells c
 abbrev pub makes_of : ℕ → TileId → Summary → Bool
 makes_of cap tile cell = nat_le tile.z (reach_of cap cell) && overlaps_of tile cell.square
 
-abbrev pub exists_of : ℕ → List Summary → TileId → Bool
+unfoldable pub exists_of : ℕ → List Summary → TileId → Bool
 exists_of cap cells tile = (tile.z == 0) || list_any (makes_of cap tile) cells
 
 -- ---- the same for a level, a row and a column, of which there may be no tile

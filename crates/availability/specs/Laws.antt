@@ -1,13 +1,17 @@
 -- What the definitions of existence, runs, counts and layer texts say of one another.
-use Rattle.std.specs.Prelude.{◌≡◌, ℕ, ◌<◌, ◌≤◌, List, ◌∷◌, ◌++◌, length, true, false}
+use Rattle.std.specs.Prelude.{◌≡◌, ℕ, ◌<◌, ◌≤◌, List, ◌∷◌, ◌++◌, length, true, false, IsTrue, ◌↔◌}
 use Rattle.terrain_base.specs.declared.summary.Summary.{Summary}
 use Rattle.terrain_base.specs.declared.tile.TileId.{TileId}
 use Rattle.tms_tree.specs.Touch.{touches_of}
 use Rattle.availability.specs.declared.row_run.RowRun.{RowRun}
 use Rattle.availability.specs.Count.{ListsTiles, tile_count_of}
-use Rattle.availability.specs.Existence.{exists_of, exists_at, is_tile, HasNear}
+use Rattle.availability.specs.Existence.{Exists, exists_of, exists_at, is_tile, HasNear}
 use Rattle.availability.specs.Layer.{deepest_of, layer_text_of}
 use Rattle.availability.specs.Runs.{AreRuns, runs_of}
+
+-- the test of existence holds exactly where the tile exists
+abbrev pub TestLaw : Type 0
+TestLaw = (cap : ℕ) (cells : List Summary) (tile : TileId) → IsTrue (exists_of cap cells tile) ↔ Exists cap cells tile
 
 -- a tile above the cap does not exist
 abbrev pub CapLaw : Type 0
@@ -73,6 +77,10 @@ TellsLaw =
 
 -- ---- the count
 
--- a list that has each existing tile once is as long
+-- there is a list that has each existing tile once
+abbrev pub ListedLaw : Type 0
+ListedLaw = (cap : ℕ) (cells : List Summary) → (tiles : List TileId) × ListsTiles cap cells tiles
+
+-- and each such list is as long as the count
 abbrev pub CountLaw : Type 0
 CountLaw = (cap : ℕ) (cells : List Summary) (tiles : List TileId) → ListsTiles cap cells tiles → length tiles ≡ tile_count_of cap cells

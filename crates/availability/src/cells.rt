@@ -24,6 +24,7 @@ fn is_made(cells: &[Summary], cap: u8, tile: TileId) -> bool
 /// Whether the tile exists in a database of these cells with this deepest level. Both tiles of level 0 do.
 /// Another tile exists where a cell whose depth, cut at `cap`, is at least the tile's level has a square whose
 /// inside shares a point with the tile's. The order of the cells is free.
+#[tactic(auto, unfolding(crate::specs::Existence::exists_of))]
 pub fn exists(summaries: &[Summary], cap: u8, tile: TileId) -> bool
     ensures value { result ≡ exists_of cap summaries.now tile }
     ensures meaning { IsTrue result ↔ Exists cap summaries.now tile }

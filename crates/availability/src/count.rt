@@ -32,6 +32,7 @@ fn level_count(alloc: Global, summaries: &[Summary], cap: u8, z: u8) -> Result<u
 }
 
 /// How many tiles of the levels from 0 to `cap` exist.
+#[tactic(auto, unfolding(crate::specs::Count::tile_count_of))]
 pub fn tile_count(alloc: Global, summaries: &[Summary], cap: u8) -> Result<u64, NoMemory>
     requires { cap ≤ 14 }
     ensures { IfOk result (λ count. count ≡ tile_count_of cap summaries.now) }

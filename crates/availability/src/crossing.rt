@@ -5,10 +5,6 @@ ghost use Rattle.availability.specs.Runs.{IsNonempty};
 ghost use Rattle.availability.specs.Existence.{makes_at};
 ghost use Rattle.availability.specs.Crossing.{Adds, crosses_both};
 ghost use Rattle.tms_tree.specs.Touch.{crosses_at};
-ghost use Rattle.std.specs.List.{All};
-ghost use Rattle.availability.specs.Runs.{IsNonempty};
-ghost use Rattle.availability.specs.Existence.{makes_at};
-ghost use Rattle.availability.specs.Crossing.{Adds, crosses_both};
 ghost use Rattle.tms_tree.specs.Touched.{is_in_run};
 
 use crate::RowRun;

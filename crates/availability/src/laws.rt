@@ -1,6 +1,12 @@
 //! What the definitions say of one another. Each function does nothing: its contract is a law.
-ghost use Rattle.availability.specs.Laws.{CapLaw, NearLaw, AddedLaw, ReplacedLaw, NumbersLaw, NoTileLaw};
-ghost use Rattle.availability.specs.Laws.{RunsLaw, OneListLaw, ReachedLaw, DeepestLaw, TellsLaw, CountLaw};
+ghost use Rattle.availability.specs.Laws.{TestLaw, CapLaw, NearLaw, AddedLaw, ReplacedLaw, NumbersLaw, NoTileLaw};
+ghost use Rattle.availability.specs.Laws.{RunsLaw, OneListLaw, ReachedLaw, DeepestLaw, TellsLaw};
+ghost use Rattle.availability.specs.Laws.{ListedLaw, CountLaw};
+
+/// The test of existence holds exactly where the tile exists.
+pub fn existence_by_test()
+    ensures { TestLaw }
+{}
 
 /// A tile above the cap does not exist.
 pub fn nothing_above_the_cap()
@@ -38,7 +44,9 @@ pub fn layer_tells_the_tiles()
     ensures { TellsLaw }
 {}
 
-/// The number of tiles is the length of a list that has each existing tile once.
+/// There is a list that has each existing tile once and no other, and the number of tiles is the length of any
+/// such list.
 pub fn count_is_a_length()
-    ensures { CountLaw }
+    ensures found { ListedLaw }
+    ensures length { CountLaw }
 {}

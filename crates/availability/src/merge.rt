@@ -1,6 +1,8 @@
 // Runs that touch are joined.
 ghost use Rattle.std.specs.Prelude.{◌≡◌, IfOk};
-ghost use Rattle.availability.specs.Merge.{joins_of, merged_of, Takes};
+ghost use Rattle.std.specs.List.{All, AllPairs};
+ghost use Rattle.availability.specs.Merge.{IsBehind, joins_of, Takes, AreJoined};
+ghost use Rattle.availability.specs.Runs.{IsNonempty};
 
 use crate::RowRun;
 use std::alloc::Global;
@@ -29,9 +31,12 @@ fn taken(done: &mut Vec<RowRun>, run: RowRun, next: RowRun) -> Result<RowRun, No
     }
 }
 
-/// Joins the runs that have a column in common or stand side by side in a row. They are sorted.
+/// Joins the runs that have a column in common or stand side by side in a row. None begins before an earlier
+/// one.
 pub(crate) fn merged(alloc: Global, sorted: &[RowRun]) -> Result<Vec<RowRun>, NoMemory>
-    ensures { IfOk result (λ runs. runs.items ≡ merged_of sorted.now) }
+    requires nonempty { All IsNonempty sorted.now }
+    requires sorted { AllPairs IsBehind sorted.now }
+    ensures { IfOk result (λ runs. AreJoined sorted.now runs.items) }
 {
     let mut done = Vec::new(alloc);
     if let Some((first, rest)) = sorted.split_first() {

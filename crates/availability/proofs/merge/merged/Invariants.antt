@@ -1,5 +1,5 @@
 use Rattle.std.specs.Prelude.{◌≡◌, ◌++◌, drop}
-use Rattle.availability.specs.Merge.{merged_from}
+use Rattle.availability.proofs.Merges.{merged_from}
 use Rattle.availability.proofs.merge.merged.Given as goal
 
 -- what is done, and what is left, are the whole
