@@ -4,7 +4,6 @@ pub mod Candidates
 pub mod Cells
 pub mod Fault
 pub mod Source
-pub mod Squares
 pub mod Value
 pub mod Whole
 pub mod WholeAgrees

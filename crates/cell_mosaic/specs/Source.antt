@@ -1,5 +1,5 @@
 -- What a call on a source of posts leaves of it and of the store that it is lent, and what its faults show.
-use Rattle.std.specs.Prelude.{◌≡◌, ◌≢◌, ℕ, ◌≤◌, Bool, List, Option, Some, None, Result, IfErr, IfSome, IsErrOf, IsSome}
+use Rattle.std.specs.Prelude.{◌≡◌, ◌≢◌, ℕ, ◌≤◌, Bool, List, Option, Some, None, Result, IfOk, IfErr, IfSome, IsErrOf, IsSome}
 use Rattle.std.specs.FinMap.{get}
 use Rattle.terrain_base.specs.declared.name.Key.TheVariants.{Cell as CellName}
 use Rattle.terrain_base.specs.declared.square.Square.{Square}
@@ -13,6 +13,10 @@ use Rattle.dted_cell.specs.Trouble.{Shows, name_of}
 use Rattle.cell_mosaic.specs.Cells.{Cells, Shapes}
 use Rattle.cell_mosaic.specs.declared.fault.SourceFault.{SourceFault}
 use Rattle.cell_mosaic.specs.declared.fault.SourceFault.TheVariants.{Failed, NoMemory, Cell}
+
+-- where the cells are told, an Ok gives what they say
+abbrev pub GivesTold : {T : Type 0} → Option Cells → (Cells → T) → Result T SourceFault → Type 0
+GivesTold told said result = IfOk result (λ given. (cells : Cells) → told ≡ Some cells → given ≡ said cells)
 
 -- the store's count of faults never falls, and 'Failed' is answered only where it rose
 pub record FaultHasCause {T : Type 0} (before now : ℕ) (result : Result T SourceFault) : Type 0 where
@@ -41,6 +45,7 @@ pub record IsShown (shapes : Shapes) (files : Option Files) (told : Option Cells
   pub shown : IfSome files (λ files. Shows files trouble)
   pub untold : told ≡ None
 
+-- a fault that is trouble with a cell is so shown; of the others this says nothing
 abbrev pub FaultIsShown : Shapes → Option Files → Option Cells → SourceFault → Type 0
 FaultIsShown shapes files told Failed = Unit {0}
 FaultIsShown shapes files told NoMemory = Unit {0}

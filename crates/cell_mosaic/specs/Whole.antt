@@ -1,9 +1,9 @@
 -- The cells that are kept in memory, by the entries of a map.
-use Rattle.std.specs.Prelude.{◌≡◌, ℕ, List, [], ◌∷◌, Some}
+use Rattle.std.specs.Prelude.{◌≡◌, ℕ, List, [], ◌∷◌, Option, Some, option_map}
 use Rattle.std.specs.FinMap.{FinMap, empty, insert, get}
 use Rattle.terrain_base.specs.declared.square.Square.{Square}
 use Rattle.terrain_base.specs.SquareOrder.{square_cmp}
-use Rattle.dted_cell.specs.Cell.{level_in}
+use Rattle.dted_cell.specs.Cell.{square_in, level_in}
 use Rattle.dted_cell.specs.Trouble.{IsCellOf}
 use Rattle.cell_mosaic.specs.Cells.{Cells, Shapes}
 
@@ -21,3 +21,10 @@ shapes_of entries = values_of level_in entries
 -- each is a cell of its square
 abbrev pub AreOfSquares : List (Square × List ℕ) → Type 0
 AreOfSquares entries = (square : Square) (bytes : List ℕ) → get (cells_of entries) square ≡ Some bytes → IsCellOf square bytes
+
+-- the told cells and one more, under its square; and the shapes with that one's
+abbrev pub with_cell : List ℕ → Option Cells → Option Cells
+with_cell cell told = option_map (λ cells. insert cells (square_in cell) cell) told
+
+abbrev pub with_shape : List ℕ → Shapes → Shapes
+with_shape cell shapes = insert shapes (square_in cell) (level_in cell)

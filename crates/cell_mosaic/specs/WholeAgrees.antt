@@ -1,4 +1,5 @@
--- What is kept in memory are cells of its shapes.
+-- What is kept in memory are cells of its shapes: the proof of that law of a source. It stands here since the proof of an
+-- impl's law may cite only what stands in specs/.
 use Rattle.std.specs.Prelude.{◌≡◌, ℕ, Bool, true, false, List, [], ◌∷◌, Option, Some, option_map, cond, refl}
 use Rattle.std.proofs.Common.{sym, ap, ◌∙◌, subst}
 use Rattle.std.specs.Ordering.{eq_by_cmp}

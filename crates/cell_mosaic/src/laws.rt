@@ -28,7 +28,11 @@ pub fn rounds_half_up()
 
 /// Cells in memory are sure and told, and told alike whatever store is lent.
 pub fn whole_cells_are_sure()
-    ensures sure { (source : whole.WholeCells) → ⟦<crate::WholeCells as crate::PostSource>⟧.sure source ≡ true }
-    ensures told { (source : whole.WholeCells) (files : Option Files) → IsSome (⟦<crate::WholeCells as crate::PostSource>⟧.cells source files) }
-    ensures alike { (source : whole.WholeCells) (files files' : Option Files) → ⟦<crate::WholeCells as crate::PostSource>⟧.cells source files ≡ ⟦<crate::WholeCells as crate::PostSource>⟧.cells source files' }
+    ensures sure { (source : whole.WholeCells) →
+        ⟦<crate::WholeCells as crate::PostSource>⟧.sure source ≡ true }
+    ensures told { (source : whole.WholeCells) (files : Option Files) →
+        IsSome (⟦<crate::WholeCells as crate::PostSource>⟧.cells source files) }
+    ensures alike { (source : whole.WholeCells) (files files' : Option Files) →
+        ⟦<crate::WholeCells as crate::PostSource>⟧.cells source files
+        ≡ ⟦<crate::WholeCells as crate::PostSource>⟧.cells source files' }
 {}

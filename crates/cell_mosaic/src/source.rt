@@ -3,7 +3,7 @@ ghost use Rattle.std.specs.Prelude.{◌≡◌, Bool, Option, Some, IfOk, IsTrue,
 ghost use Rattle.std.specs.FinMap as map;
 ghost use Rattle.terrain_base.specs.Step.{Files};
 ghost use Rattle.cell_mosaic.specs.Cells.{Cells, Shapes, AreCells, HasPost, IsPost, post_at};
-ghost use Rattle.cell_mosaic.specs.Source.{FaultHasCause, TroubleIsShown, Keeps, AlikeCells};
+ghost use Rattle.cell_mosaic.specs.Source.{GivesTold, FaultHasCause, TroubleIsShown, Keeps, AlikeCells};
 
 use crate::SourceFault;
 use terrain_base::{CellLevel, Post, Square, Store};
@@ -35,16 +35,21 @@ pub trait PostSource {
         row: u16,
     ) -> Result<Post, SourceFault>
         requires held { HasPost (shapes self.old) square col row }
-        ensures value { IfOk result (λ post. (told : Cells) → cells self.old (S.holds store.old) ≡ Some told → post ≡ post_at told square col row) }
+        ensures value { GivesTold (cells self.old (S.holds store.old))
+            (λ told. post_at told square col row) result }
         ensures height { IfOk result IsPost }
         ensures sure { IsTrue (sure self.old) → IsOk result }
-        ensures shown { TroubleIsShown (shapes self.old) (S.holds store.old) (cells self.old (S.holds store.old)) result }
+        ensures shown { TroubleIsShown (shapes self.old) (S.holds store.old)
+            (cells self.old (S.holds store.old)) result }
         ensures cause { FaultHasCause (S.faults store.old) (S.faults store.new) result }
-        ensures keeps { Keeps cells shapes sure self.old self.new (S.holds store.old) (S.holds store.new) (S.log store.old) (S.log store.new) };
+        ensures keeps { Keeps cells shapes sure self.old self.new
+            (S.holds store.old) (S.holds store.new) (S.log store.old) (S.log store.new) };
 
     /// Told cells are cells of their squares, and these and their levels are those of the shapes.
-    ghost agree: { (source : Self) (files : Option Files) (told : Cells) → cells source files ≡ Some told → AreCells told (shapes source) };
+    ghost agree: { (source : Self) (files : Option Files) (told : Cells) →
+        cells source files ≡ Some told → AreCells told (shapes source) };
 
     /// What is told depends on the files under the names of these squares' cells alone.
-    ghost by_names: { (source : Self) (files files' : Option Files) → AlikeCells (shapes source) files files' → cells source files ≡ cells source files' };
+    ghost by_names: { (source : Self) (files files' : Option Files) →
+        AlikeCells (shapes source) files files' → cells source files ≡ cells source files' };
 }

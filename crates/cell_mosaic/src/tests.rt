@@ -117,6 +117,9 @@ fn a_cell_in_memory_gives_its_posts(rt: HostRuntime) {
     let square = Square::of(180, 0).expect(&rt, "a square");
     let level = cells.shape(square).expect(&rt, "a level");
     let mut store = SureStore::new(rt.alloc());
+    let corner = Place { p: 2, q: 0, d: 2 };
+    let value = cell_value(&mut cells, &mut store, square, corner);
+    assert_eq!(rt; value, Ok(Post::Metres(-7)));
     if 20 < columns(square, level) && 120 < rows(level) {
         let post = cells.post(&mut store, square, 20, 120);
         assert_eq!(rt; post, Ok(Post::Metres(-7)));

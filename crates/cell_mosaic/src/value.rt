@@ -1,11 +1,11 @@
 // The value at a place in a square's cell.
-ghost use Rattle.std.specs.Prelude.{◌≡◌, ◌+◌, ◌-◌, ◌*◌, ◌/◌, ◌%◌, ◌^◌, ◌<◌, ◌≤◌, ◌==◌, Some, IsSome, IsFalse, IfOk, IsTrue, IsOk};
+ghost use Rattle.std.specs.Prelude.{◌≡◌, ◌+◌, ◌-◌, ◌*◌, ◌/◌, ◌%◌, ◌^◌, ◌<◌, ◌≤◌, ◌==◌, IsSome, IsFalse, IfOk, IsTrue, IsOk};
 ghost use Rattle.std.specs.FinMap as map;
 ghost use Rattle.terrain_base.specs.Level.{rows_of, columns_of};
 ghost use Rattle.tms_tree.specs.Degrees.{Holds, square_rectangle};
 ghost use Rattle.tms_tree.specs.Place.{IsPlace, point_of};
-ghost use Rattle.cell_mosaic.specs.Cells.{Cells, HasPost, IsPost, post_at};
-ghost use Rattle.cell_mosaic.specs.Source.{FaultHasCause, TroubleIsShown, Keeps};
+ghost use Rattle.cell_mosaic.specs.Cells.{HasPost, IsPost, post_at};
+ghost use Rattle.cell_mosaic.specs.Source.{GivesTold, FaultHasCause, TroubleIsShown, Keeps};
 ghost use Rattle.cell_mosaic.specs.Value.{east_of, north_of, unless_ignored, quad_round, ArePosts, value_at};
 
 use crate::{PostSource, Quad, SourceFault, blend};
@@ -58,12 +58,15 @@ fn post_unless<P: PostSource, S: Store>(
     row: u16,
 ) -> Result<Post, SourceFault>
     requires held { IsFalse is_ignored → HasPost (P.shapes src.old) square col row }
-    ensures value { IfOk result (λ post. (told : Cells) → P.cells src.old (S.holds store.old) ≡ Some told → post ≡ unless_ignored is_ignored (post_at told square col row)) }
+    ensures value { GivesTold (P.cells src.old (S.holds store.old))
+        (λ told. unless_ignored is_ignored (post_at told square col row)) result }
     ensures height { IfOk result IsPost }
     ensures sure { IsTrue (P.sure src.old) → IsOk result }
-    ensures shown { TroubleIsShown (P.shapes src.old) (S.holds store.old) (P.cells src.old (S.holds store.old)) result }
+    ensures shown { TroubleIsShown (P.shapes src.old) (S.holds store.old)
+        (P.cells src.old (S.holds store.old)) result }
     ensures cause { FaultHasCause (S.faults store.old) (S.faults store.new) result }
-    ensures keeps { Keeps P.cells P.shapes P.sure src.old src.new (S.holds store.old) (S.holds store.new) (S.log store.old) (S.log store.new) }
+    ensures keeps { Keeps P.cells P.shapes P.sure src.old src.new
+        (S.holds store.old) (S.holds store.new) (S.log store.old) (S.log store.new) }
 {
     if is_ignored {
         return Ok(Post::Void);
@@ -85,12 +88,15 @@ fn quad<P: PostSource, S: Store>(
     requires se { IsFalse on_column → HasPost (P.shapes src.old) square (col + 1) row }
     requires nw { IsFalse on_row → HasPost (P.shapes src.old) square col (row + 1) }
     requires small { (col < 3601) × (row < 3601) }
-    ensures value { IfOk result (λ quad. (told : Cells) → P.cells src.old (S.holds store.old) ≡ Some told → quad ≡ quad_round (post_at told square) col row on_column on_row) }
+    ensures value { GivesTold (P.cells src.old (S.holds store.old))
+        (λ told. quad_round (post_at told square) col row on_column on_row) result }
     ensures height { IfOk result ArePosts }
     ensures sure { IsTrue (P.sure src.old) → IsOk result }
-    ensures shown { TroubleIsShown (P.shapes src.old) (S.holds store.old) (P.cells src.old (S.holds store.old)) result }
+    ensures shown { TroubleIsShown (P.shapes src.old) (S.holds store.old)
+        (P.cells src.old (S.holds store.old)) result }
     ensures cause { FaultHasCause (S.faults store.old) (S.faults store.new) result }
-    ensures keeps { Keeps P.cells P.shapes P.sure src.old src.new (S.holds store.old) (S.holds store.new) (S.log store.old) (S.log store.new) }
+    ensures keeps { Keeps P.cells P.shapes P.sure src.old src.new
+        (S.holds store.old) (S.holds store.new) (S.log store.old) (S.log store.new) }
 {
     let sw = src.post(store, square, col, row)?;
     let se = post_unless(on_column, src, store, square, col + 1, row)?;
@@ -110,12 +116,15 @@ pub fn cell_value<P: PostSource, S: Store>(
     requires place { IsPlace place }
     requires known { IsSome (map.get (P.shapes src.old) square) }
     requires holds { Holds (square_rectangle square) (point_of place) }
-    ensures value { IfOk result (λ post. (told : Cells) → P.cells src.old (S.holds store.old) ≡ Some told → post ≡ value_at told square place) }
+    ensures value { GivesTold (P.cells src.old (S.holds store.old))
+        (λ told. value_at told square place) result }
     ensures height { IfOk result IsPost }
     ensures sure { IsTrue (P.sure src.old) → IsOk result }
-    ensures shown { TroubleIsShown (P.shapes src.old) (S.holds store.old) (P.cells src.old (S.holds store.old)) result }
+    ensures shown { TroubleIsShown (P.shapes src.old) (S.holds store.old)
+        (P.cells src.old (S.holds store.old)) result }
     ensures cause { FaultHasCause (S.faults store.old) (S.faults store.new) result }
-    ensures keeps { Keeps P.cells P.shapes P.sure src.old src.new (S.holds store.old) (S.holds store.new) (S.log store.old) (S.log store.new) }
+    ensures keeps { Keeps P.cells P.shapes P.sure src.old src.new
+        (S.holds store.old) (S.holds store.new) (S.log store.old) (S.log store.new) }
 {
     let Some(level) = src.shape(square) else {
         unreachable!()

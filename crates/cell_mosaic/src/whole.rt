@@ -56,15 +56,16 @@ pub struct WholeCells {
 }
 
 impl WholeCells {
-    ghost use Rattle.std.specs.Prelude.{Some, None, Option, OnOk, OnErr, IfErr, option_map};
+    ghost use Rattle.std.specs.Prelude.{Some, None, Option, OnOk, OnErr, IfErr};
     ghost use Rattle.std.specs.FinMap as map;
     ghost use Rattle.terrain_base.specs.Step.{Files};
-    ghost use Rattle.dted_cell.specs.Cell.{square_in, level_in};
-    ghost use Rattle.cell_mosaic.specs.Cells.{Cells};
+    ghost use Rattle.dted_cell.specs.Cell.{square_in};
+    ghost use Rattle.cell_mosaic.specs.Whole.{with_cell, with_shape};
 
     /// A source without cells. Takes no memory.
     pub fn new(alloc: Global) -> WholeCells
-        ensures cells { (files : Option Files) → ⟦<WholeCells as PostSource>⟧.cells result files ≡ Some map.empty }
+        ensures cells { (files : Option Files) →
+            ⟦<WholeCells as PostSource>⟧.cells result files ≡ Some map.empty }
         ensures shapes { ⟦<WholeCells as PostSource>⟧.shapes result ≡ map.empty }
     {
         WholeCells {
@@ -75,11 +76,17 @@ impl WholeCells {
     /// Puts one cell more, whose square has none. For want of memory the cell is handed back and nothing is changed.
     pub fn put(&mut self, cell: CellBytes) -> Result<(), NoRoom>
         requires { map.get (⟦<WholeCells as PostSource>⟧.shapes self.old) (square_in cell) ≡ None }
-        ensures cells { OnOk result ((files : Option Files) → ⟦<WholeCells as PostSource>⟧.cells self.new files ≡ option_map (λ cells. map.insert cells (square_in cell) cell) (⟦<WholeCells as PostSource>⟧.cells self.old files)) }
-        ensures shapes { OnOk result (⟦<WholeCells as PostSource>⟧.shapes self.new ≡ map.insert (⟦<WholeCells as PostSource>⟧.shapes self.old) (square_in cell) (level_in cell)) }
+        ensures cells { OnOk result ((files : Option Files) →
+            ⟦<WholeCells as PostSource>⟧.cells self.new files
+            ≡ with_cell cell (⟦<WholeCells as PostSource>⟧.cells self.old files)) }
+        ensures shapes { OnOk result (⟦<WholeCells as PostSource>⟧.shapes self.new
+            ≡ with_shape cell (⟦<WholeCells as PostSource>⟧.shapes self.old)) }
         ensures returned { IfErr result (λ room. room.cell ≡ cell) }
-        ensures cells_stay { OnErr result ((files : Option Files) → ⟦<WholeCells as PostSource>⟧.cells self.new files ≡ ⟦<WholeCells as PostSource>⟧.cells self.old files) }
-        ensures shapes_stay { OnErr result (⟦<WholeCells as PostSource>⟧.shapes self.new ≡ ⟦<WholeCells as PostSource>⟧.shapes self.old) }
+        ensures cells_stay { OnErr result ((files : Option Files) →
+            ⟦<WholeCells as PostSource>⟧.cells self.new files
+            ≡ ⟦<WholeCells as PostSource>⟧.cells self.old files) }
+        ensures shapes_stay { OnErr result (⟦<WholeCells as PostSource>⟧.shapes self.new
+            ≡ ⟦<WholeCells as PostSource>⟧.shapes self.old) }
     {
         let square = square_of(&cell);
         match self.cells.insert(square, cell) {
@@ -90,7 +97,9 @@ impl WholeCells {
 }
 
 impl PostSource for WholeCells {
-    ghost use Rattle.std.specs.Prelude.{true, refl, Some};
+    ghost use Rattle.std.specs.Prelude.{true, refl, Some, IfOk, IsOk};
+    ghost use Rattle.cell_mosaic.specs.Cells.{HasPost, post_at};
+    ghost use Rattle.cell_mosaic.specs.Source.{GivesTold};
     ghost use Rattle.cell_mosaic.specs.Whole.{cells_of, shapes_of};
     ghost use Rattle.cell_mosaic.specs.WholeAgrees.{whole_agrees};
 
@@ -117,7 +126,16 @@ impl PostSource for WholeCells {
         square: Square,
         col: u16,
         row: u16,
-    ) -> Result<Post, SourceFault> {
+    ) -> Result<Post, SourceFault>
+        requires held { HasPost (⟦<WholeCells as PostSource>⟧.shapes self.old) square col row }
+        ensures value { GivesTold (⟦<WholeCells as PostSource>⟧.cells self.old (S.holds _store.old))
+            (λ told. post_at told square col row) result }
+        ensures height { IfOk result IsPost }
+        // It needs no store: whatever store is lent, the answer is Ok, and cells and store stay as they were.
+        ensures sure { IsOk result }
+        ensures same { self.new ≡ self.old }
+        ensures unused { _store.new ≡ _store.old }
+    {
         let Some(cell) = self.cells.get(&square) else {
             unreachable!()
         };
