@@ -74,8 +74,10 @@ fn post_unless<P: PostSource, S: Store>(
     src.post(store, square, col, row)
 }
 
-/// The posts round a point, with voids in place of those that are ignored.
-fn quad<P: PostSource, S: Store>(
+/// The posts round a point of the square's cell. The south-western one is that of the column and the row; where the
+/// point lies on the column or on the row, voids stand in place of those beyond, which have the weight 0. Answers and
+/// changes are those of `PostSource::post`.
+pub fn posts_round<P: PostSource, S: Store>(
     src: &mut P,
     store: &mut S,
     square: Square,
@@ -131,7 +133,7 @@ pub fn cell_value<P: PostSource, S: Store>(
     };
     let (col, east) = step(east(square, place), columns(square, level), place.d);
     let (row, north) = step(north(square, place), rows(level), place.d);
-    let quad = quad(src, store, square, col, row, east == 0, north == 0)?;
+    let quad = posts_round(src, store, square, col, row, east == 0, north == 0)?;
     let unit = place.d as u128;
     Ok(blend(&quad, east as u128, unit, north as u128, unit))
 }

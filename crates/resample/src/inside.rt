@@ -1,71 +1,20 @@
 // The height at a place that lies inside one square.
-ghost use Rattle.std.specs.Prelude.{◌≡◌, ℕ, ◌+◌, ◌*◌, ◌<◌, Some, IfOk, IsFalse, IsTrue, IsOk};
+ghost use Rattle.std.specs.Prelude.{◌≡◌, ℕ, ◌*◌, ◌<◌, Some, IfOk, IsTrue, IsOk};
 ghost use Rattle.std.specs.FinMap as map;
 ghost use Rattle.terrain_base.specs.Level.{rows_of, columns_of};
 ghost use Rattle.terrain_base.specs.Height.{IsHeight};
 ghost use Rattle.tms_tree.specs.Place.{IsPlace};
-ghost use Rattle.cell_mosaic.specs.Cells.{Cells, HasPost, IsPost, post_at};
+ghost use Rattle.cell_mosaic.specs.Cells.{Cells, IsPost};
 ghost use Rattle.cell_mosaic.specs.Source.{FaultHasCause, TroubleIsShown, Keeps};
-ghost use Rattle.cell_mosaic.specs.Value.{unless_ignored, quad_round, ArePosts, value_at};
+ghost use Rattle.cell_mosaic.specs.Value.{value_at};
 ghost use Rattle.resample.specs.Height.{height_at, height_or};
 ghost use Rattle.resample.specs.Line.{IsLine, LiesIn, AreCounts};
 
 use crate::counts::{Counts, columns_in, rows_in};
 use crate::line::{Line, turn_to};
-use cell_mosaic::{PostSource, Quad, SourceFault, blend};
+use cell_mosaic::{PostSource, SourceFault, blend, posts_round};
 use terrain_base::{CellLevel, Post, Square, Store};
 use tms_tree::Place;
-
-/// The post, or a void in its place where it is ignored.
-fn post_unless<P: PostSource, S: Store>(
-    is_ignored: bool,
-    src: &mut P,
-    store: &mut S,
-    square: Square,
-    col: u16,
-    row: u16,
-) -> Result<Post, SourceFault>
-    requires held { IsFalse is_ignored → HasPost (P.shapes src.old) square col row }
-    ensures value { IfOk result (λ post. (told : Cells) → P.cells src.old (S.holds store.old) ≡ Some told → post ≡ unless_ignored is_ignored (post_at told square col row)) }
-    ensures height { IfOk result IsPost }
-    ensures sure { IsTrue (P.sure src.old) → IsOk result }
-    ensures shown { TroubleIsShown (P.shapes src.old) (S.holds store.old) (P.cells src.old (S.holds store.old)) result }
-    ensures cause { FaultHasCause (S.faults store.old) (S.faults store.new) result }
-    ensures keeps { Keeps P.cells P.shapes P.sure src.old src.new (S.holds store.old) (S.holds store.new) (S.log store.old) (S.log store.new) }
-{
-    if is_ignored {
-        return Ok(Post::Void);
-    }
-    src.post(store, square, col, row)
-}
-
-/// The posts round a point, with voids in place of those that are ignored.
-fn quad<P: PostSource, S: Store>(
-    src: &mut P,
-    store: &mut S,
-    square: Square,
-    col: u16,
-    row: u16,
-    on_column: bool,
-    on_row: bool,
-) -> Result<Quad, SourceFault>
-    requires sw { HasPost (P.shapes src.old) square col row }
-    requires se { IsFalse on_column → HasPost (P.shapes src.old) square (col + 1) row }
-    requires nw { IsFalse on_row → HasPost (P.shapes src.old) square col (row + 1) }
-    requires small { (col < 3601) × (row < 3601) }
-    ensures value { IfOk result (λ quad. (told : Cells) → P.cells src.old (S.holds store.old) ≡ Some told → quad ≡ quad_round (post_at told square) col row on_column on_row) }
-    ensures height { IfOk result ArePosts }
-    ensures sure { IsTrue (P.sure src.old) → IsOk result }
-    ensures shown { TroubleIsShown (P.shapes src.old) (S.holds store.old) (P.cells src.old (S.holds store.old)) result }
-    ensures cause { FaultHasCause (S.faults store.old) (S.faults store.new) result }
-    ensures keeps { Keeps P.cells P.shapes P.sure src.old src.new (S.holds store.old) (S.holds store.new) (S.log store.old) (S.log store.new) }
-{
-    let sw = src.post(store, square, col, row)?;
-    let se = post_unless(on_column, src, store, square, col + 1, row)?;
-    let nw = post_unless(on_row, src, store, square, col, row + 1)?;
-    let ne = post_unless(on_column || on_row, src, store, square, col + 1, row + 1)?;
-    Ok(Quad { sw, se, nw, ne })
-}
 
 /// The post's metres, or the fill for a void.
 fn metres_or(post: Post, fill: i16) -> i16
@@ -102,7 +51,7 @@ fn value_between<P: PostSource, S: Store>(
     ensures keeps { Keeps P.cells P.shapes P.sure src.old src.new (S.holds store.old) (S.holds store.new) (S.log store.old) (S.log store.new) }
 {
     let unit = place.d as u128;
-    let quad = quad(
+    let quad = posts_round(
         src,
         store,
         square,

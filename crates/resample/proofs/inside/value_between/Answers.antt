@@ -4,26 +4,26 @@ use Rattle.cell_mosaic.proofs.Values.{told_value}
 use Rattle.resample.proofs.Lines.{step_below, has_post, value_by_lines}
 use Rattle.resample.proofs.inside.value_between.Goals as goal
 
-pub quad-requires-clause-sw : goal.quad-requires-clause-sw
-quad-requires-clause-sw g c =
+pub posts_round-requires-clause-sw : goal.posts_round-requires-clause-sw
+posts_round-requires-clause-sw g c =
     let e = step_below _ _ _ _ c.args.east.now c.requires.place.positive c.requires.east in
     let n = step_below _ _ _ _ c.args.north.now c.requires.place.positive c.requires.north in
     has_post _ c.args.square c.args.level _ _ c.requires.known (omega (arith, e)) (omega (arith, n))
 
-pub quad-requires-clause-se : goal.quad-requires-clause-se
-quad-requires-clause-se g c off =
+pub posts_round-requires-clause-se : goal.posts_round-requires-clause-se
+posts_round-requires-clause-se g c off =
     let e = step_below _ _ _ _ c.args.east.now c.requires.place.positive c.requires.east in
     let n = step_below _ _ _ _ c.args.north.now c.requires.place.positive c.requires.north in
     has_post _ c.args.square c.args.level _ _ c.requires.known (omega (arith, e)) (omega (arith, n))
 
-pub quad-requires-clause-nw : goal.quad-requires-clause-nw
-quad-requires-clause-nw g c off =
+pub posts_round-requires-clause-nw : goal.posts_round-requires-clause-nw
+posts_round-requires-clause-nw g c off =
     let e = step_below _ _ _ _ c.args.east.now c.requires.place.positive c.requires.east in
     let n = step_below _ _ _ _ c.args.north.now c.requires.place.positive c.requires.north in
     has_post _ c.args.square c.args.level _ _ c.requires.known (omega (arith, e)) (omega (arith, n))
 
-pub quad-requires-clause-small : goal.quad-requires-clause-small
-quad-requires-clause-small g c =
+pub posts_round-requires-clause-small : goal.posts_round-requires-clause-small
+posts_round-requires-clause-small g c =
     let e = step_below _ _ _ _ c.args.east.now c.requires.place.positive c.requires.east in
     let n = step_below _ _ _ _ c.args.north.now c.requires.place.positive c.requires.north in
     (omega (arith, e, c.requires.east.line_is.few, c.requires.east.posts_are), omega (arith, n, c.requires.north.line_is.few, c.requires.north.posts_are))
