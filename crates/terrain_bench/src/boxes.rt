@@ -19,7 +19,7 @@ fn place(k: u32) -> Place
 }
 
 /// The sum of the ends of so many boxes, modulo 2^64.
-pub fn sum(count: u32) -> u64 {
+pub(crate) fn sum(count: u32) -> u64 {
     let mut sum: u64 = 0;
     for k in 0..count {
         let ends = frame_box(place(k), (k % 16_000) as i16);

@@ -92,7 +92,7 @@ impl Said {
 }
 
 /// What the meshes of so many grids say, at levels 0 to 14 in turn.
-pub fn of_grids(alloc: Global, count: u32) -> Result<Said, NoMemory> {
+pub(crate) fn of_grids(alloc: Global, count: u32) -> Result<Said, NoMemory> {
     let mut said = Said {
         count: 0,
         points: START,

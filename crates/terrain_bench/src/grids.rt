@@ -24,7 +24,7 @@ fn cells(alloc: Global) -> Result<Option<WholeCells>, NoMemory> {
 }
 
 /// The sum of a height of each of so many grids at level 14, inside the cell, modulo 2^64.
-pub fn sum(alloc: Global, count: u32) -> Result<u64, NoMemory> {
+pub(crate) fn sum(alloc: Global, count: u32) -> Result<u64, NoMemory> {
     let Some(mut cells) = cells(alloc)? else {
         return Ok(0);
     };

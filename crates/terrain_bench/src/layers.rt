@@ -20,7 +20,7 @@ fn cell(k: u32) -> Option<Summary> {
 }
 
 /// The layer text of so many scattered cells, to level 14.
-pub fn text(alloc: Global, count: u32) -> Result<Vec<u8>, NoMemory> {
+pub(crate) fn text(alloc: Global, count: u32) -> Result<Vec<u8>, NoMemory> {
     let mut cells = Vec::new(alloc);
     for k in 0..count {
         if let Some(cell) = cell(k) {

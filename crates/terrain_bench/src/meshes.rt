@@ -52,7 +52,7 @@ fn grid(alloc: Global, kind: Kind) -> Result<Grid, NoMemory> {
 }
 
 /// The number of vertices and triangles of so many meshes of a grid at level 12, modulo 2^64.
-pub fn sum(alloc: Global, kind: Kind, count: u32) -> Result<u64, NoMemory> {
+pub(crate) fn sum(alloc: Global, kind: Kind, count: u32) -> Result<u64, NoMemory> {
     let grid = grid(alloc, kind)?;
     let mut sum: u64 = 0;
     for _ in 0..count {
