@@ -17,12 +17,13 @@ use Rattle.tile_mesh.specs.declared.side.Side.TheVariants.{West, South, East, No
 use Rattle.tile_mesh.specs.declared.point.GridPoint.{GridPoint}
 use Rattle.tile_mesh.specs.Kept.{Rises, RisesTo66}
 use Rattle.tile_mesh.specs.Merge.{merge}
-use Rattle.tile_mesh.specs.Numbers.{point_eq, corners}
+use Rattle.tile_mesh.specs.Numbers.{IsOnGrid, point_eq, corners}
 use Rattle.tile_mesh.specs.Rule.{strip_triangles, border_split, leaf_ends, inner_points, leaf_triangles, border_triangles, triangles_of}
 use Rattle.tile_mesh.specs.Sides.{plane_side, outer_at, inner_at, step_at}
 use Rattle.tile_mesh.proofs.BorderLines.{ends_rise}
 use Rattle.tile_mesh.proofs.FirstUses.{points_equal, point_itself}
 use Rattle.tile_mesh.proofs.Framing.{inner_box, border_is, leaves_tiled}
+use Rattle.tile_mesh.proofs.KeptLists.{within}
 use Rattle.tile_mesh.proofs.MergeOrder.{merge_each, le_is, gt_is}
 use Rattle.tile_mesh.proofs.Merges.{merge_outers}
 use Rattle.tile_mesh.proofs.Placing.{height, at, line, line_up}
@@ -120,6 +121,12 @@ outer_outside South i h = omega (arith, h.south)
 outer_outside East i h = omega (arith, h.east)
 outer_outside North i h = omega (arith, h.north)
 
+outer_on_grid : (side : Side) (i : ℕ) → i ≤ 66 → IsOnGrid (outer_at side i)
+outer_on_grid West i l = record { column = omega arith; row = l }
+outer_on_grid South i l = record { column = l; row = omega arith }
+outer_on_grid East i l = record { column = omega arith; row = l }
+outer_on_grid North i l = record { column = l; row = omega arith }
+
 -- ---- points of edges
 meet : (side other : Side) (i x : ℕ) → outer_at side i ≡ outer_at other x → ((side ≡ other) × (i ≡ x)) ⊎ ((i ≡ 0) ⊎ (i ≡ 66))
 meet South South i x e = inl (refl, ap (λ (p : GridPoint). p.i) e)
@@ -167,6 +174,14 @@ has_each P all (x ∷ xs) f g = (
   f x (g x (or_first (nat_eq x x) _ (number_itself x))),
   has_each P all xs f (λ i h. g i (or_second (nat_eq i x) _ h)),
 )
+
+each_has : (P : ℕ → Type 0) (xs : List ℕ) (i : ℕ) → AllByRecursion P xs → Has xs i → P i
+each_has P [] i h e = absurd (let z = e in cc)
+each_has P (x ∷ xs) i h e = go (or_cases (nat_eq i x) _ e) (each_has P xs i h.1)
+  where
+    go : (nat_eq i x ≡ true) ⊎ Has xs i → (Has xs i → P i) → P i
+    go (inl e) f = subst P (sym (equal_numbers i x e)) h.0
+    go (inr k) f = f k
 
 -- ---- the corners of a strip
 of_strip : (P : GridPoint → Type 0) (side : Side) (kept ends : List ℕ)
@@ -265,6 +280,17 @@ module _ (grid : List ℤ) (tol : ℕ) (kept : Side → List ℕ) (rises : (side
       go : IsAllowed kept (outer_at side i) → Has (kept side) i
       go (inl h) = absurd (outer_outside side i h)
       go (inr (other, x, h, f)) = which other x h (meet side other i x (sym f))
+
+  -- each corner lies on the grid
+  pub corner_on_grid : (p : GridPoint)
+      → list_any (point_eq p) (corners (triangles_of (is_split grid tol) kept)) ≡ true → IsOnGrid p
+  corner_on_grid p e = go (each_found (IsAllowed kept) p (triangles_of (is_split grid tol) kept) all_allowed e)
+    where
+      go : IsAllowed kept p → IsOnGrid p
+      go (inl h) = record { column = omega (arith, h.east); row = omega (arith, h.north) }
+      go (inr (side, i, h, f)) =
+          subst (λ (q : GridPoint). IsOnGrid q) f
+          (outer_on_grid side i (each_has (λ x. x ≤ 66) (kept side) i (within (kept side) (rises side)) h))
 
 -- ---- a kept point is a corner
 abbrev pub Found : GridPoint → List (Triple GridPoint) → Type 0

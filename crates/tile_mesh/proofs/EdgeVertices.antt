@@ -16,17 +16,10 @@ use Rattle.tile_mesh.specs.Rule.{triangles_of}
 use Rattle.tile_mesh.specs.Sides.{outer_at}
 use Rattle.tile_mesh.proofs.Corners.{vertex_is}
 use Rattle.tile_mesh.proofs.EdgePoints.{corners_are_kept}
-use Rattle.tile_mesh.proofs.FirstUses.{first_any}
+use Rattle.tile_mesh.proofs.FirstUses.{place_below, first_any}
 use Rattle.tile_mesh.proofs.KeptLists.{kept_to_66}
 
 -- ---- positions
-place_below : (p : GridPoint) (ks : List GridPoint) → list_any (point_eq p) ks ≡ true → position_or_len (point_eq p) ks < length ks
-place_below p [] h = absurd (let z = h in cc)
-place_below p (k ∷ ks) h = (elim (point_eq p k) as (λ b. (b || list_any (point_eq p) ks) ≡ true → cond (not b) (1 + position_or_len (point_eq p) ks) 0 < suc (length ks)) [
-  | true ↦ λ e. omega arith
-  | false ↦ λ e. omega (arith, place_below p ks e)
-]) h
-
 no_place : (p : GridPoint) (ks : List GridPoint) → list_any (point_eq p) ks ≡ false → position_or_len (point_eq p) ks ≡ length ks
 no_place p [] h = refl
 no_place p (k ∷ ks) h = (elim (point_eq p k) as (λ b. (b || list_any (point_eq p) ks) ≡ false → cond (not b) (1 + position_or_len (point_eq p) ks) 0 ≡ suc (length ks)) [

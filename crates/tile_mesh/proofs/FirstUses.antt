@@ -1,16 +1,17 @@
 -- Points by first use.
 use Rattle.std.proofs.Common.{◌≡◌, ℕ, zero, suc, ◌+◌, ◌<◌, ◌≤◌, arith, Bool, true, false, not, cond, ◌&&◌, ◌||◌, List, [], ◌∷◌, ◌++◌, map, length, nat_eq, refl, ap, sym, ◌∙◌, subst, append_assoc, inl, inr}
 use Rattle.std.specs.Prelude.{slice_index_or, Contains, ◌⊎◌}
-use Rattle.std.specs.List.{position_or_len, list_any, AllByRecursion}
+use Rattle.std.specs.List.{position_or_len, list_any, IsDistinct, AllByRecursion}
 use Rattle.std.proofs.lemmas.Bool.Decides.{nat_tests}
 use Rattle.std.proofs.lemmas.List.Elements.{Contains-append_right, Contains-append_cases}
 use Rattle.indexmap.specs.IndexSet.{insert_key, insert_all}
 use Rattle.mesh_plane.specs.Triangles.{Triple}
+use Rattle.mesh_plane.proofs.ListWords.{all_from}
 use Rattle.mesh_plane.proofs.Tilings.{all_map}
 use Rattle.tile_mesh.specs.declared.point.GridPoint.{GridPoint}
 use Rattle.tile_mesh.specs.Sides.{grid_point}
 use Rattle.tile_mesh.specs.Numbers.{point_eq, first_uses, corners, numbered}
-use Rattle.tile_mesh.specs.Numbering.{first_use, named, IsNumbering}
+use Rattle.tile_mesh.specs.Numbering.{first_use, named, ArePoints, IsNumbering}
 use Rattle.tile_mesh.proofs.Steps.{keys_after}
 use Rattle.tile_mesh.proofs.Corners.{AreFound, found}
 use Rattle.tile_mesh.proofs.MergeOrder.{Pairs, pairs_from}
@@ -190,6 +191,42 @@ ordered all seen done (r ∷ rest) e s =
           (all_map (Later all (length (done ++ r ∷ []))) (Before all r) (λ p l. omega (arith, at, push_length done r, l)) (first_uses (seen ++ r ∷ []) rest) g.0, g.1),
         )
 
+-- points in the order of their first use are apart
+apart_by_use : (all : List GridPoint) (p q : GridPoint) → Before all p q → point_eq p q ≡ false
+apart_by_use all p q l = go (point_eq p q) refl
+  where
+    go : (b : Bool) → point_eq p q ≡ b → point_eq p q ≡ false
+    go true e =
+        absurd (omega (arith, l, ap (λ (r : GridPoint). position_or_len (point_eq r) all) (points_equal p q e)))
+    go false e = e
+
+distinct_from : (all ks : List GridPoint) → Pairs (Before all) ks → IsDistinct point_eq ks
+unfolding IsDistinct
+distinct_from all [] h = tt
+distinct_from all (k ∷ ks) h = (
+  all_map (Before all k) (λ q. point_eq k q ≡ false) (apart_by_use all k) ks h.0,
+  distinct_from all ks h.1,
+)
+
+pub distinct_firsts : (ps : List GridPoint) → IsDistinct point_eq (first_uses [] ps)
+distinct_firsts ps = distinct_from ps (first_uses [] ps) (ordered ps [] [] ps refl (λ p. refl)).1
+
+-- ---- numbers
+pub place_below : (p : GridPoint) (ks : List GridPoint) → list_any (point_eq p) ks ≡ true → position_or_len (point_eq p) ks < length ks
+place_below p [] h = absurd (let z = h in cc)
+place_below p (k ∷ ks) h = (elim (point_eq p k) as (λ b. (b || list_any (point_eq p) ks) ≡ true → cond (not b) (1 + position_or_len (point_eq p) ks) 0 < suc (length ks)) [
+  | true ↦ λ e. omega arith
+  | false ↦ λ e. omega (arith, place_below p ks e)
+]) h
+
+numbers_within : (ks : List GridPoint) (ts : List (Triple GridPoint)) → AreFound ks ts
+    → AllByRecursion (ArePoints (length ks)) (map (numbered ks) ts)
+numbers_within ks [] f = tt
+numbers_within ks (t ∷ ts) f = (
+  record { a = place_below t.a ks f.0; b = place_below t.b ks f.1; c = place_below t.c ks f.2 },
+  numbers_within ks ts f.3,
+)
+
 -- ---- names
 abbrev at_number : List GridPoint → ℕ → GridPoint
 at_number ks n = slice_index_or ks n (grid_point 0 0)
@@ -212,6 +249,10 @@ names_are ks [] f = refl
 names_are ks (t ∷ ts) f =
     rw (named_is t.a ks f.0, named_is t.b ks f.1, named_is t.c ks f.2, names_are ks ts f.3) refl
 
+-- all corners are found among the first uses
+pub all_found : (ts : List (Triple GridPoint)) → AreFound (first_uses [] (corners ts)) ts
+all_found ts = subst (λ (qs : List GridPoint). AreFound qs ts) (keys_after (corners ts) []) (found ts [])
+
 pub numbering_law : (ts : List (Triple GridPoint)) → IsNumbering ts (first_uses [] (corners ts)) (map (numbered (first_uses [] (corners ts))) ts)
 numbering_law ts =
     let cs = corners ts in let ks = first_uses [] cs in
@@ -221,5 +262,6 @@ numbering_law ts =
         (λ h. any_from p ks (first_any p cs ∙ any_to p cs h)),
       );
       order = pairs_from (λ p q. first_use ts p < first_use ts q) ks (ordered cs [] [] cs refl (λ p. refl)).1;
-      names = names_are ks ts (subst (λ (qs : List GridPoint). AreFound qs ts) (keys_after cs []) (found ts []));
+      within = all_from (ArePoints (length ks)) (map (numbered ks) ts) (numbers_within ks ts (all_found ts));
+      names = names_are ks ts (all_found ts);
     }

@@ -6,7 +6,12 @@ use Rattle.std.proofs.lemmas.Bool.Decides.{nat_tests}
 use Rattle.edge_decimate.specs.KeptLine.{first_from}
 use Rattle.edge_decimate.specs.KeptPoints.{kept_between, kept_points}
 use Rattle.edge_decimate.proofs.Halves as halves
-use Rattle.tile_mesh.specs.Kept.{from_on, Rises, RisesTo66}
+use Rattle.tile_mesh.specs.Kept.{Rises, RisesTo66}
+
+-- what is at least k of a list that rises
+abbrev pub from_on : ℕ → List ℕ → List ℕ
+from_on k [] = []
+from_on k (x ∷ xs) = if nat_le k x then x ∷ xs else from_on k xs
 
 le_yes : (a b : ℕ) → a ≤ b → nat_le a b ≡ true
 le_yes a b h = grind (arith, nat_tests)

@@ -14,9 +14,11 @@ pub mod InnerLists
 pub mod KeptLists
 pub mod LeafHeights
 pub mod LeafLists
+pub mod LeafPlaces
 pub mod Made
 pub mod MergeOrder
 pub mod Merges
+pub mod MeshNumbers
 pub mod Nearness
 pub mod Parents
 pub mod Placing

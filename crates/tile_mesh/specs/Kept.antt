@@ -1,10 +1,5 @@
--- Lists of kept points.
-use Rattle.std.specs.Prelude.{◌≡◌, ℕ, ◌<◌, List, [], ◌∷◌, if◌then◌else◌, nat_le}
-
--- what is at least k of a list that rises
-abbrev pub from_on : ℕ → List ℕ → List ℕ
-from_on k [] = []
-from_on k (x ∷ xs) = if nat_le k x then x ∷ xs else from_on k xs
+-- Lists that rise.
+use Rattle.std.specs.Prelude.{◌≡◌, ℕ, ◌<◌, List, [], ◌∷◌}
 
 -- each number is greater than the one before it, from a to b
 abbrev pub Rises : ℕ → List ℕ → ℕ → Type 0

@@ -2,10 +2,13 @@ pub mod Sides
 pub mod Merge
 pub mod InnerPoints
 pub mod Kept
+pub mod Laws
+pub mod LeafTriangles
 pub mod Rule
 pub mod Numbers
 pub mod Growth
 pub mod Mesh
+pub mod MeshNumbers
 pub mod Merging
 pub mod Numbering
 pub mod Plane

@@ -28,4 +28,5 @@ pub record IsMerge (xs ys : List ℕ) (steps : List (Step ℕ)) : Type 0 where
   pub order : AllPairs ComesBefore steps
 
 abbrev pub MergeLaw : Type 0
-MergeLaw = (xs ys : List ℕ) → AllPairs (λ i j. i < j) xs → AllPairs (λ i j. i < j) ys → IsMerge xs ys (merge xs ys)
+MergeLaw = (xs ys : List ℕ) → AllPairs (λ i j. i < j) xs → AllPairs (λ i j. i < j) ys
+    → IsMerge xs ys (merge xs ys)

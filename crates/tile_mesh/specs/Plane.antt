@@ -13,7 +13,7 @@ use Rattle.tile_mesh.specs.Sides.{outer_at}
 abbrev pub corner_of : MeshPoint → Corner
 corner_of p = record { u = pos (line_of p.i); v = pos (line_of p.j); h = p.metres }
 
--- the vertex of this number; each index of a mesh is a vertex's
+-- the vertex of this number, where it is below their count
 abbrev pub vertex : List MeshPoint → ℕ → MeshPoint
 vertex points n = slice_index_or points n (record { i = 0; j = 0; metres = pos 0 })
 
@@ -33,6 +33,6 @@ triangles_in mesh = map (triangle_of mesh.points) mesh.triangles
 abbrev pub edge_vertices : Mesh → Side → List MeshPoint
 edge_vertices mesh side = map (vertex mesh.points) (edge_of mesh side)
 
--- the kept points of an edge, as vertices: a function of the heights along the edge alone
+-- the kept points of an edge, as vertices
 abbrev pub kept_vertices : List ℤ → ℕ → Side → List MeshPoint
 kept_vertices grid tol side = map (λ i. vertex_at grid (outer_at side i)) (kept_on grid tol side)

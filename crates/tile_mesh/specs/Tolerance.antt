@@ -6,8 +6,8 @@ use Rattle.terrain_base.specs.Grid.{line_of, height_in}
 use Rattle.tile_mesh.specs.Mesh.{Mesh}
 use Rattle.tile_mesh.specs.Plane.{triangles_in}
 
--- at each grid point the plane of every triangle that holds it is within the tolerance of the height there, and
--- so is the surface: whatever height over/under it has, it differs by at most the tolerance
+-- at each grid point the plane of every triangle that holds it is within the tolerance of the height there,
+-- and so is the surface: whatever height over/under it has, it differs by at most the tolerance
 pub record KeepsTolerance (grid : List ℤ) (tol : ℕ) (mesh : Mesh) : Type 0 where
   pub planes : All (Follows grid tol) (triangles_in mesh)
   pub surface : (i j : ℕ) → i ≤ 66 → j ≤ 66 → (over under : ℤ)

@@ -95,7 +95,8 @@ impl Builder {
     fn smallest(&mut self, i: u8, j: u8) -> Result<(), NoMemory>
         requires i { i ≤ 65 }
         requires j { j ≤ 65 }
-        ensures { let ts = halves (grid_point i j) (grid_point (i + 1) j) (grid_point (i + 1) (j + 1)) (grid_point i (j + 1)) in
+        ensures { let ne = grid_point (i + 1) (j + 1) in
+            let ts = halves (grid_point i j) (grid_point (i + 1) j) ne (grid_point i (j + 1)) in
             OnOk result (Grows ts self.old self.new) }
     {
         let (sw, se) = (GridPoint { i, j }, GridPoint { i: i + 1, j });
@@ -110,41 +111,20 @@ impl Builder {
         requires j { j + 2 * half ≤ 65 }
         ensures { OnOk result (Grows (leaf_at half i j (as_midpoints midpoints)) self.old self.new) }
     {
-        let (middle_i, middle_j, east, north) = (i + half, j + half, i + 2 * half, j + 2 * half);
-        let centre = GridPoint {
-            i: middle_i,
-            j: middle_j,
-        };
+        let (column, row, east, north) = (i + half, j + half, i + 2 * half, j + 2 * half);
+        let centre = GridPoint { i: column, j: row };
         let (sw, se) = (GridPoint { i, j }, GridPoint { i: east, j });
         let (ne, nw) = (GridPoint { i: east, j: north }, GridPoint { i, j: north });
-        self.side(
-            centre,
-            sw,
-            GridPoint { i: middle_i, j },
-            se,
-            midpoints.south,
-        )?;
-        self.side(
-            centre,
-            se,
-            GridPoint {
-                i: east,
-                j: middle_j,
-            },
-            ne,
-            midpoints.east,
-        )?;
-        self.side(
-            centre,
-            ne,
-            GridPoint {
-                i: middle_i,
-                j: north,
-            },
-            nw,
-            midpoints.north,
-        )?;
-        self.side(centre, nw, GridPoint { i, j: middle_j }, sw, midpoints.west)?;
+        let (west_middle, south_middle) = (GridPoint { i, j: row }, GridPoint { i: column, j });
+        let east_middle = GridPoint { i: east, j: row };
+        let north_middle = GridPoint {
+            i: column,
+            j: north,
+        };
+        self.side(centre, sw, south_middle, se, midpoints.south)?;
+        self.side(centre, se, east_middle, ne, midpoints.east)?;
+        self.side(centre, ne, north_middle, nw, midpoints.north)?;
+        self.side(centre, nw, west_middle, sw, midpoints.west)?;
         Ok(())
     }
 

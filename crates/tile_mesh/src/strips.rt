@@ -47,7 +47,8 @@ impl Builder {
         requires o { o ≤ 66 }
         requires n { n ≤ 66 }
         ensures { let steps = map (step_at side) (merge outer.now inner.now) in
-            OnOk result (Grows (strip (plane_side side) (outer_at side o) (inner_at side n) steps) self.old self.new) }
+            let ts = strip (plane_side side) (outer_at side o) (inner_at side n) steps in
+            OnOk result (Grows ts self.old self.new) }
     {
         let (from, to) = (side.outer(o), side.inner(n));
         match (outer, inner) {

@@ -2,7 +2,6 @@ use Rattle.std.proofs.Common.{◌≡◌, ◌∙◌, ℕ, Bool, ap, sym, subst}
 use Rattle.std.specs.Prelude.{IfOk}
 use Rattle.terrain_base.specs.Grid.{tolerance_of}
 use Rattle.quad_split.specs.Split.{is_split}
-use Rattle.terrain_base.specs.Grid.{tolerance_of}
 use Rattle.quad_split.specs.SplitMap.{bit_at}
 use Rattle.tile_mesh.specs.Mesh.{Mesh, mesh_on, mesh_from, kept_on, mesh_of_grid}
 use Rattle.mesh_plane.specs.Cover.{Covers}

@@ -1,8 +1,7 @@
 use Rattle.std.proofs.Common.{◌≡◌, ◌∙◌, ap, sym, arith, suc, ◌≤◌, ◌∷◌, ◌++◌, [], List, ℕ, subst, append_assoc, append-nil}
 use Rattle.std.specs.List.{AllByRecursion}
 use Rattle.edge_decimate.specs.KeptLine.{first_from}
-use Rattle.tile_mesh.specs.Kept.{from_on}
-use Rattle.tile_mesh.proofs.KeptLists.{begins, next_is, ends, within}
+use Rattle.tile_mesh.proofs.KeptLists.{from_on, begins, next_is, ends, within}
 use Rattle.tile_mesh.proofs.kept.listed.Goals as goal
 
 pub loop-index-init : goal.loop-index-init

@@ -1,5 +1,5 @@
 use Rattle.std.proofs.Common.{◌≡◌, ◌++◌, ◌-◌, ◌≤◌, suc}
-use Rattle.tile_mesh.specs.Kept.{from_on}
+use Rattle.tile_mesh.proofs.KeptLists.{from_on}
 use Rattle.tile_mesh.proofs.kept.listed.Given as goal
 
 abbrev pub invariant-loop-index : goal.invariant-loop-index
