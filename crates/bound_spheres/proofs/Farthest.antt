@@ -97,7 +97,7 @@ pub farthest_end : (x y z : ℤ) (far : ℕ) (xs : List EcefBox) (i : ℕ) → l
 farthest_end x y z far xs i p e = e ∙ ap (λ ys. farthest_of x y z ys) (take_all i xs p)
 
 -- ---- corners
-square_is : (v : ℤ) → v *ℤ v ≡ pos (unsigned_abs v * unsigned_abs v)
+pub square_is : (v : ℤ) → v *ℤ v ≡ pos (unsigned_abs v * unsigned_abs v)
 square_is (pos n) = refl
 square_is (negsuc n) = refl
 

@@ -1,4 +1,5 @@
 pub mod FarPoint
+pub mod Horizon
 pub mod Hull
 pub mod Reach
 pub mod Sphere

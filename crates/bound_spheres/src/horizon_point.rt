@@ -7,13 +7,13 @@ use crate::Sphere;
 use terrain_base::floor_div;
 
 // The semi-major axis of the WGS 84 ellipsoid in metres.
-const SEMI_MAJOR_AXIS: i128 = 6_378_137;
+pub const SEMI_MAJOR_AXIS: i128 = 6_378_137;
 
 // The flattening is 10^9 over this.
-const INVERSE_FLATTENING: i128 = 298_257_223_563;
+pub const INVERSE_FLATTENING: i128 = 298_257_223_563;
 
 // The semi-minor axis in metres is this over the same number.
-const SEMI_MINOR_AXIS: i128 = SEMI_MAJOR_AXIS * (INVERSE_FLATTENING - 1_000_000_000);
+pub const SEMI_MINOR_AXIS: i128 = SEMI_MAJOR_AXIS * (INVERSE_FLATTENING - 1_000_000_000);
 
 // Sixteen times 2^28, over 2^8.
 const SCALE: i128 = 0x100_0000;

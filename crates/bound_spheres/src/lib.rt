@@ -3,9 +3,13 @@
 
 mod distance;
 mod extent;
+mod hiding;
 mod horizon_point;
+pub mod laws;
+mod scaled;
 mod sphere;
 
+pub use hiding::horizon;
 pub use horizon_point::far_point;
 pub use sphere::{Sphere, sphere_of};
 

@@ -1,7 +1,9 @@
 pub mod BlendLaws
 pub mod Heaviest
 pub mod Heights
+pub mod Keeping
 pub mod Holders
 pub mod Sums
 pub mod Values
 pub mod WholeMaps
+pub mod Ranges

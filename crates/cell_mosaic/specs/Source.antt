@@ -1,8 +1,9 @@
 -- What a call on a source of posts leaves of it and of the store that it is lent, and what its faults show.
-use Rattle.std.specs.Prelude.{◌≡◌, ◌≢◌, ℕ, ◌≤◌, Bool, List, Option, Some, None, Result, IfOk, IfErr, IfSome, IsErrOf, IsSome}
+use Rattle.std.specs.Prelude.{◌≡◌, ◌≢◌, ℕ, ◌≤◌, Bool, List, Option, Some, None, Result, IfOk, IfErr, IfSome, IsErrOf, true}
 use Rattle.std.specs.FinMap.{get}
 use Rattle.terrain_base.specs.declared.name.Key.TheVariants.{Cell as CellName}
-use Rattle.terrain_base.specs.declared.square.Square.{Square}
+use Rattle.std.specs.FinSet.{contains}
+use Rattle.terrain_base.specs.declared.cell_key.CellKey.{CellKey}
 use Rattle.terrain_base.specs.declared.level.CellLevel.{CellLevel}
 use Rattle.terrain_base.specs.declared.store.Change.{Change}
 use Rattle.terrain_base.specs.Cause.{Rose}
@@ -30,19 +31,22 @@ IsOpenedAt level (Bad name refusal) = Unit {0}
 IsOpenedAt level (Elsewhere name found) = Unit {0}
 IsOpenedAt level (Changed name opened found) = (opened ≡ level) × (opened ≢ found)
 
--- the trouble is with the cell of a square of the shapes
+-- the trouble is with the cell of a key of the shapes
 pub record IsTroubleWith (shapes : Shapes) (trouble : CellTrouble) : Type 0 where
-  pub square : Square
-  pub level : CellLevel
-  pub known : get shapes square ≡ Some level
-  pub name : name_of trouble ≡ CellName square
-  pub opened : IsOpenedAt level trouble
+  pub key : CellKey
+  pub known : contains shapes key ≡ true
+  pub name : name_of trouble ≡ CellName key
+  pub opened : IsOpenedAt key.level trouble
+
+-- the files show the trouble, with the cell of the key whose name it carries
+abbrev pub ShowsNamed : Files → CellTrouble → Type 0
+ShowsNamed files trouble = (key : CellKey) → name_of trouble ≡ CellName key → Shows key files trouble
 
 -- trouble is with a cell of the shapes, the store's files show it where they are told, and there is none where the
 -- cells are told
 pub record IsShown (shapes : Shapes) (files : Option Files) (told : Option Cells) (trouble : CellTrouble) : Type 0 where
   pub subject : IsTroubleWith shapes trouble
-  pub shown : IfSome files (λ files. Shows files trouble)
+  pub shown : IfSome files (λ files. ShowsNamed files trouble)
   pub untold : told ≡ None
 
 -- a fault that is trouble with a cell is so shown; of the others this says nothing
@@ -71,4 +75,4 @@ AlikeCells shapes None None = Unit {0}
 AlikeCells shapes (Some files) None = ⊥
 AlikeCells shapes None (Some files') = ⊥
 AlikeCells shapes (Some files) (Some files') =
-    (square : Square) → IsSome (get shapes square) → get files (CellName square) ≡ get files' (CellName square)
+    (key : CellKey) → contains shapes key ≡ true → get files (CellName key) ≡ get files' (CellName key)

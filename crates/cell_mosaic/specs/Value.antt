@@ -1,14 +1,19 @@
--- The value at a place in a square's cell.
-use Rattle.std.specs.Prelude.{ℕ, ◌+◌, ◌-◌, ◌*◌, ◌/◌, ◌%◌, ◌==◌, ◌||◌, Bool, List, Option, Some, None, if◌then◌else◌}
+-- The value at a place in a cell, and in the cells of a square.
+use Rattle.std.specs.Prelude.{ℕ, ◌+◌, ◌-◌, ◌*◌, ◌/◌, ◌%◌, ◌==◌, ◌||◌, Bool, not, List, map, Option, Some, None, if◌then◌else◌}
+use Rattle.std.specs.List.{find}
 use Rattle.std.specs.FinMap.{get}
 use Rattle.terrain_base.specs.declared.square.Square.{Square}
 use Rattle.terrain_base.specs.declared.level.CellLevel.{CellLevel}
+use Rattle.terrain_base.specs.declared.cell_key.CellKey.{CellKey}
+use Rattle.terrain_base.specs.CellKey.{key_at, all_levels}
 use Rattle.terrain_base.specs.declared.post.Post.{Post}
 use Rattle.terrain_base.specs.declared.post.Post.TheVariants.{Void}
 use Rattle.terrain_base.specs.Level.{rows_of, columns_of}
 use Rattle.tms_tree.specs.declared.place.Place.{Place}
-use Rattle.dted_cell.specs.Cell.{level_in, post_in}
-use Rattle.cell_mosaic.specs.Cells.{Cells, IsPost}
+use Rattle.tms_tree.specs.Degrees.{Holds, square_rectangle}
+use Rattle.tms_tree.specs.Place.{IsPlace, point_of}
+use Rattle.dted_cell.specs.Cell.{level_in, post_in, is_void_post}
+use Rattle.cell_mosaic.specs.Cells.{Cells, AreSound, IsPost}
 use Rattle.cell_mosaic.specs.Blend.{blend_of}
 use Rattle.cell_mosaic.specs.declared.quad.Quad.{Quad}
 
@@ -56,9 +61,25 @@ abbrev pub value_or_void : Option (List ℕ) → Square → Place → Post
 value_or_void None square place = Void
 value_or_void (Some bytes) square place = value_in_cell (post_in bytes) square (level_in bytes) place
 
--- the value at the place in the square's cell
-abbrev pub value_at : Cells → Square → Place → Post
-value_at cells square place = value_or_void (get cells square) square place
+-- the value at the place in the cell of the key
+abbrev pub value_in_key : Cells → CellKey → Place → Post
+value_in_key cells key place = value_or_void (get cells key) key.square place
+
+abbrev pub is_known : Post → Bool
+is_known post = not (is_void_post post)
+
+abbrev pub known_or_void : Option Post → Post
+known_or_void None = Void
+known_or_void (Some post) = post
+
+-- the first value that is not void in the square's cells of these levels
+abbrev pub value_in_levels : Cells → Square → Place → List CellLevel → Post
+value_in_levels cells square place levels =
+    known_or_void (find is_known (map (λ level. value_in_key cells (key_at square level) place) levels))
+
+-- the value at the place in the square: the first that is not void in its cells, the finest first
+unfoldable pub value_at : Cells → Square → Place → Post
+value_at cells square place = value_in_levels cells square place all_levels
 
 -- each of the four is void or a height
 pub record ArePosts (quad : Quad) : Type 0 where
@@ -66,3 +87,8 @@ pub record ArePosts (quad : Quad) : Type 0 where
   pub se : IsPost quad.se
   pub nw : IsPost quad.nw
   pub ne : IsPost quad.ne
+
+-- a value in a square is void or a height
+abbrev pub ValuesArePosts : Type 0
+ValuesArePosts = (cells : Cells) (square : Square) (place : Place) → AreSound cells → IsPlace place → Holds (square_rectangle square) (point_of place)
+    → IsPost (value_at cells square place)

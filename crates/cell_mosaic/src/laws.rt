@@ -5,6 +5,7 @@ ghost use Rattle.terrain_base.specs.Step.{Files};
 ghost use Rattle.cell_mosaic.specs.declared.whole.WholeCells as whole;
 ghost use Rattle.cell_mosaic.specs.BlendLaws.{FirstIsHeaviest, WeightsMakeTheUnit, RoundsHalfUp};
 ghost use Rattle.cell_mosaic.specs.Candidates.{AreHolders};
+ghost use Rattle.cell_mosaic.specs.Value.{ValuesArePosts};
 
 /// A square is a candidate of a place exactly where its closed rectangle holds the place, longitudes modulo 360.
 pub fn candidates_hold()
@@ -24,6 +25,11 @@ pub fn weights_make_the_unit()
 /// A weighted sum is rounded to the nearest metre, a half up.
 pub fn rounds_half_up()
     ensures { RoundsHalfUp }
+{}
+
+/// A value in a cell is void or metres from -16000 to 16000.
+pub fn values_are_posts()
+    ensures { ValuesArePosts }
 {}
 
 /// Cells in memory are sure and told, and told alike whatever store is lent.

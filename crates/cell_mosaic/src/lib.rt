@@ -1,4 +1,4 @@
-//! The cells beside each other: which squares hold a place, the value at a place in a square's cell, and where the
+//! The cells beside each other: which squares hold a place, the value at a place in a square's cells, and where the
 //! posts come from.
 #![tactic(auto)]
 

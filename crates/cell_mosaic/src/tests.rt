@@ -5,7 +5,7 @@ ghost use Rattle.cell_mosaic.specs.Cells.{IsPost};
 use super::*;
 use dted_cell::CellBytes;
 use std::alloc::{AllocError, Global};
-use terrain_base::{Post, Square, SureStore, columns, rows};
+use terrain_base::{CellKey, Post, Square, SureStore, columns, rows};
 use tms_tree::Place;
 
 /// Whether these squares, by longitude and latitude, are the candidates of the place.
@@ -120,8 +120,9 @@ fn a_cell_in_memory_gives_its_posts(rt: HostRuntime) {
     let corner = Place { p: 2, q: 0, d: 2 };
     let value = cell_value(&mut cells, &mut store, square, corner);
     assert_eq!(rt; value, Ok(Post::Metres(-7)));
+    let key = CellKey { square, level };
     if 20 < columns(square, level) && 120 < rows(level) {
-        let post = cells.post(&mut store, square, 20, 120);
+        let post = cells.post(&mut store, key, 20, 120);
         assert_eq!(rt; post, Ok(Post::Metres(-7)));
     }
 }

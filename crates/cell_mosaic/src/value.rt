@@ -1,15 +1,15 @@
-// The value at a place in a square's cell.
-ghost use Rattle.std.specs.Prelude.{◌≡◌, ◌+◌, ◌-◌, ◌*◌, ◌/◌, ◌%◌, ◌^◌, ◌<◌, ◌≤◌, ◌==◌, IsSome, IsFalse, IfOk, IsTrue, IsOk};
-ghost use Rattle.std.specs.FinMap as map;
+// The value at a place in a cell, and in the cells of a square.
+ghost use Rattle.std.specs.Prelude.{◌≡◌, true, ◌+◌, ◌-◌, ◌*◌, ◌/◌, ◌%◌, ◌^◌, ◌<◌, ◌≤◌, ◌==◌, IsSome, IsFalse, IfOk, IsTrue, IsOk};
+ghost use Rattle.std.specs.FinSet as set;
 ghost use Rattle.terrain_base.specs.Level.{rows_of, columns_of};
 ghost use Rattle.tms_tree.specs.Degrees.{Holds, square_rectangle};
 ghost use Rattle.tms_tree.specs.Place.{IsPlace, point_of};
-ghost use Rattle.cell_mosaic.specs.Cells.{HasPost, IsPost, post_at};
+ghost use Rattle.cell_mosaic.specs.Cells.{HasPost, IsPost, post_at, finest_of};
 ghost use Rattle.cell_mosaic.specs.Source.{GivesTold, FaultHasCause, TroubleIsShown, Keeps};
-ghost use Rattle.cell_mosaic.specs.Value.{east_of, north_of, unless_ignored, quad_round, ArePosts, value_at};
+ghost use Rattle.cell_mosaic.specs.Value.{east_of, north_of, unless_ignored, quad_round, ArePosts, value_in_key, value_at};
 
 use crate::{PostSource, Quad, SourceFault, blend};
-use terrain_base::{Post, Square, Store, columns, rows};
+use terrain_base::{CellKey, Post, Square, Store, columns, rows};
 use tms_tree::Place;
 
 /// How far the place lies east of the square's western meridian, in units of a degree over `d`.
@@ -53,13 +53,13 @@ fn post_unless<P: PostSource, S: Store>(
     is_ignored: bool,
     src: &mut P,
     store: &mut S,
-    square: Square,
+    key: CellKey,
     col: u16,
     row: u16,
 ) -> Result<Post, SourceFault>
-    requires held { IsFalse is_ignored → HasPost (P.shapes src.old) square col row }
+    requires held { IsFalse is_ignored → HasPost (P.shapes src.old) key col row }
     ensures value { GivesTold (P.cells src.old (S.holds store.old))
-        (λ told. unless_ignored is_ignored (post_at told square col row)) result }
+        (λ told. unless_ignored is_ignored (post_at told key col row)) result }
     ensures height { IfOk result IsPost }
     ensures sure { IsTrue (P.sure src.old) → IsOk result }
     ensures shown { TroubleIsShown (P.shapes src.old) (S.holds store.old)
@@ -71,27 +71,27 @@ fn post_unless<P: PostSource, S: Store>(
     if is_ignored {
         return Ok(Post::Void);
     }
-    src.post(store, square, col, row)
+    src.post(store, key, col, row)
 }
 
-/// The posts round a point of the square's cell. The south-western one is that of the column and the row; where the
+/// The posts round a point of the key's cell. The south-western one is that of the column and the row; where the
 /// point lies on the column or on the row, voids stand in place of those beyond, which have the weight 0. Answers and
 /// changes are those of `PostSource::post`.
 pub fn posts_round<P: PostSource, S: Store>(
     src: &mut P,
     store: &mut S,
-    square: Square,
+    key: CellKey,
     col: u16,
     row: u16,
     on_column: bool,
     on_row: bool,
 ) -> Result<Quad, SourceFault>
-    requires sw { HasPost (P.shapes src.old) square col row }
-    requires se { IsFalse on_column → HasPost (P.shapes src.old) square (col + 1) row }
-    requires nw { IsFalse on_row → HasPost (P.shapes src.old) square col (row + 1) }
+    requires sw { HasPost (P.shapes src.old) key col row }
+    requires se { IsFalse on_column → HasPost (P.shapes src.old) key (col + 1) row }
+    requires nw { IsFalse on_row → HasPost (P.shapes src.old) key col (row + 1) }
     requires small { (col < 3601) × (row < 3601) }
     ensures value { GivesTold (P.cells src.old (S.holds store.old))
-        (λ told. quad_round (post_at told square) col row on_column on_row) result }
+        (λ told. quad_round (post_at told key) col row on_column on_row) result }
     ensures height { IfOk result ArePosts }
     ensures sure { IsTrue (P.sure src.old) → IsOk result }
     ensures shown { TroubleIsShown (P.shapes src.old) (S.holds store.old)
@@ -100,15 +100,43 @@ pub fn posts_round<P: PostSource, S: Store>(
     ensures keeps { Keeps P.cells P.shapes P.sure src.old src.new
         (S.holds store.old) (S.holds store.new) (S.log store.old) (S.log store.new) }
 {
-    let sw = src.post(store, square, col, row)?;
-    let se = post_unless(on_column, src, store, square, col + 1, row)?;
-    let nw = post_unless(on_row, src, store, square, col, row + 1)?;
-    let ne = post_unless(on_column || on_row, src, store, square, col + 1, row + 1)?;
+    let sw = src.post(store, key, col, row)?;
+    let se = post_unless(on_column, src, store, key, col + 1, row)?;
+    let nw = post_unless(on_row, src, store, key, col, row + 1)?;
+    let ne = post_unless(on_column || on_row, src, store, key, col + 1, row + 1)?;
     Ok(Quad { sw, se, nw, ne })
 }
 
-/// The value at the place in the square's cell, by the posts round it: void, or metres within -16000 to 16000. The
-/// square has a cell and its closed rectangle holds the place. Faults have the causes that a post's have.
+/// The value at the place in the key's cell, by the posts round it.
+fn value_in_cell<P: PostSource, S: Store>(
+    src: &mut P,
+    store: &mut S,
+    key: CellKey,
+    place: Place,
+) -> Result<Post, SourceFault>
+    requires place { IsPlace place }
+    requires known { set.contains (P.shapes src.old) key ≡ true }
+    requires holds { Holds (square_rectangle key.square) (point_of place) }
+    ensures value { GivesTold (P.cells src.old (S.holds store.old))
+        (λ told. value_in_key told key place) result }
+    ensures height { IfOk result IsPost }
+    ensures sure { IsTrue (P.sure src.old) → IsOk result }
+    ensures shown { TroubleIsShown (P.shapes src.old) (S.holds store.old)
+        (P.cells src.old (S.holds store.old)) result }
+    ensures cause { FaultHasCause (S.faults store.old) (S.faults store.new) result }
+    ensures keeps { Keeps P.cells P.shapes P.sure src.old src.new
+        (S.holds store.old) (S.holds store.new) (S.log store.old) (S.log store.new) }
+{
+    let (col, east) = step(east(key.square, place), columns(key.square, key.level), place.d);
+    let (row, north) = step(north(key.square, place), rows(key.level), place.d);
+    let quad = posts_round(src, store, key, col, row, east == 0, north == 0)?;
+    let unit = place.d as u128;
+    Ok(blend(&quad, east as u128, unit, north as u128, unit))
+}
+
+/// The value at the place in the square: the first that is not void in its cells, the finest first. It is void, or
+/// metres within -16000 to 16000. The square has a cell and its closed rectangle holds the place. Faults have the
+/// causes that a post's have.
 pub fn cell_value<P: PostSource, S: Store>(
     src: &mut P,
     store: &mut S,
@@ -116,7 +144,7 @@ pub fn cell_value<P: PostSource, S: Store>(
     place: Place,
 ) -> Result<Post, SourceFault>
     requires place { IsPlace place }
-    requires known { IsSome (map.get (P.shapes src.old) square) }
+    requires known { IsSome (finest_of (P.shapes src.old) square) }
     requires holds { Holds (square_rectangle square) (point_of place) }
     ensures value { GivesTold (P.cells src.old (S.holds store.old))
         (λ told. value_at told square place) result }
@@ -131,9 +159,28 @@ pub fn cell_value<P: PostSource, S: Store>(
     let Some(level) = src.shape(square) else {
         unreachable!()
     };
-    let (col, east) = step(east(square, place), columns(square, level), place.d);
-    let (row, north) = step(north(square, place), rows(level), place.d);
-    let quad = posts_round(src, store, square, col, row, east == 0, north == 0)?;
-    let unit = place.d as u128;
-    Ok(blend(&quad, east as u128, unit, north as u128, unit))
+    let finest = CellKey { square, level };
+    let value = value_in_cell(src, store, finest, place)?;
+    if let Post::Metres(_) = value {
+        return Ok(value);
+    }
+    let Some(second) = src.coarser(finest) else {
+        return Ok(value);
+    };
+    let middle = CellKey {
+        square,
+        level: second,
+    };
+    let below = value_in_cell(src, store, middle, place)?;
+    if let Post::Metres(_) = below {
+        return Ok(below);
+    }
+    let Some(third) = src.coarser(middle) else {
+        return Ok(below);
+    };
+    let coarsest = CellKey {
+        square,
+        level: third,
+    };
+    value_in_cell(src, store, coarsest, place)
 }

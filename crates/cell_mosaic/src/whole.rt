@@ -1,23 +1,29 @@
 // All cells in memory.
-ghost use Rattle.std.specs.Prelude.{◌≡◌, ◌+◌, ◌<◌, ◌≤◌, length};
+ghost use Rattle.std.specs.Prelude.{◌≡◌, ◌+◌, ◌<◌, ◌≤◌, false, length};
 ghost use Rattle.dted_cell.specs.Field.{word_at};
 ghost use Rattle.dted_cell.specs.Cell.{columns_in, rows_in, post_in};
-ghost use Rattle.dted_cell.specs.Trouble.{IsCellOf};
-ghost use Rattle.cell_mosaic.specs.Cells.{IsPost};
-ghost use Rattle.cell_mosaic.specs.Whole.{AreOfSquares};
+ghost use Rattle.dted_cell.specs.Trouble.{IsCellAt};
+ghost use Rattle.cell_mosaic.specs.Cells.{IsPost, first_level, coarser_levels};
+ghost use Rattle.terrain_base.specs.CellKey.{key_at};
+ghost use Rattle.terrain_base.specs.declared.level.CellLevel.TheVariants as CellLevel;
+ghost use Rattle.cell_mosaic.specs.Whole.{AreOfKeys};
 
 use crate::{PostSource, SourceFault};
 use dted_cell::CellBytes;
 use std::alloc::Global;
 use std::collections::BTreeMap;
-use terrain_base::{CellLevel, Post, Square, Store};
+use terrain_base::{CellKey, CellLevel, Post, Square, Store};
 
-/// The cell's square. Its bytes are asked for since they tell that it is a cell.
-fn square_of(cell: &CellBytes) -> Square
-    ensures { IsCellOf result cell.now }
+/// The cell's key. Its bytes are asked for since they tell that it is a cell.
+fn key_of(cell: &CellBytes) -> CellKey
+    ensures { IsCellAt result cell.now }
 {
     let _bytes = cell.bytes();
-    cell.view().square()
+    let view = cell.view();
+    CellKey {
+        square: view.square(),
+        level: view.level(),
+    }
 }
 
 /// The number of the two bytes at a place, the highest first.
@@ -51,31 +57,31 @@ pub struct NoRoom {
 /// A source that keeps all its cells in memory. It is sure, and does not use the store that it is lent.
 #[derive(Drop)]
 pub struct WholeCells {
-    cells: BTreeMap<Square, CellBytes>,
-    ghost good: { AreOfSquares cells.entries },
+    cells: BTreeMap<CellKey, CellBytes>,
+    ghost good: { AreOfKeys cells.entries },
 }
 
 impl WholeCells {
     ghost use Rattle.std.specs.Prelude.{Some, None, Option, OnOk, OnErr, IfErr};
     ghost use Rattle.std.specs.FinMap as map;
+    ghost use Rattle.std.specs.FinSet as set;
     ghost use Rattle.terrain_base.specs.Step.{Files};
-    ghost use Rattle.dted_cell.specs.Cell.{square_in};
-    ghost use Rattle.cell_mosaic.specs.Whole.{with_cell, with_shape};
+    ghost use Rattle.cell_mosaic.specs.Whole.{key_in, shapes_of, with_cell, with_shape};
 
     /// A source without cells. Takes no memory.
     pub fn new(alloc: Global) -> WholeCells
         ensures cells { (files : Option Files) →
             ⟦<WholeCells as PostSource>⟧.cells result files ≡ Some map.empty }
-        ensures shapes { ⟦<WholeCells as PostSource>⟧.shapes result ≡ map.empty }
+        ensures shapes { ⟦<WholeCells as PostSource>⟧.shapes result ≡ set.empty }
     {
         WholeCells {
             cells: BTreeMap::new(alloc),
         }
     }
 
-    /// Puts one cell more, whose square has none. For want of memory the cell is handed back and nothing is changed.
+    /// Puts one cell more, whose key has none. For want of memory the cell is handed back and nothing is changed.
     pub fn put(&mut self, cell: CellBytes) -> Result<(), NoRoom>
-        requires { map.get (⟦<WholeCells as PostSource>⟧.shapes self.old) (square_in cell) ≡ None }
+        requires { set.contains (⟦<WholeCells as PostSource>⟧.shapes self.old) (key_in cell) ≡ false }
         ensures cells { OnOk result ((files : Option Files) →
             ⟦<WholeCells as PostSource>⟧.cells self.new files
             ≡ with_cell cell (⟦<WholeCells as PostSource>⟧.cells self.old files)) }
@@ -88,10 +94,39 @@ impl WholeCells {
         ensures shapes_stay { OnErr result (⟦<WholeCells as PostSource>⟧.shapes self.new
             ≡ ⟦<WholeCells as PostSource>⟧.shapes self.old) }
     {
-        let square = square_of(&cell);
-        match self.cells.insert(square, cell) {
+        let key = key_of(&cell);
+        match self.cells.insert(key, cell) {
             Ok(_) => Ok(()),
             Err(back) => Err(NoRoom { cell: back.value.1 }),
+        }
+    }
+
+    // Whether the square has a cell of the level.
+    fn has(&self, square: Square, level: CellLevel) -> bool
+        ensures { result ≡ set.contains (shapes_of self.now.cells.entries) (key_at square level) }
+    {
+        self.cells.contains_key(&CellKey { square, level })
+    }
+
+    // Level 0, where the square has a cell of it.
+    fn zero(&self, square: Square) -> Option<CellLevel>
+        ensures { result ≡ first_level (shapes_of self.now.cells.entries) square (coarser_levels CellLevel.One) }
+    {
+        if self.has(square, CellLevel::Zero) {
+            Some(CellLevel::Zero)
+        } else {
+            None
+        }
+    }
+
+    // Level 1 or 0, the first that the square has a cell of.
+    fn one_or_zero(&self, square: Square) -> Option<CellLevel>
+        ensures { result ≡ first_level (shapes_of self.now.cells.entries) square (coarser_levels CellLevel.Two) }
+    {
+        if self.has(square, CellLevel::One) {
+            Some(CellLevel::One)
+        } else {
+            self.zero(square)
         }
     }
 }
@@ -114,29 +149,38 @@ impl PostSource for WholeCells {
     ghost by_names = { λ source files files' alike. refl };
 
     fn shape(&self, square: Square) -> Option<CellLevel> {
-        match self.cells.get(&square) {
-            Some(cell) => Some(cell.view().level()),
-            None => None,
+        if self.has(square, CellLevel::Two) {
+            Some(CellLevel::Two)
+        } else {
+            self.one_or_zero(square)
+        }
+    }
+
+    fn coarser(&self, key: CellKey) -> Option<CellLevel> {
+        match key.level {
+            CellLevel::Two => self.one_or_zero(key.square),
+            CellLevel::One => self.zero(key.square),
+            CellLevel::Zero => None,
         }
     }
 
     fn post<S: Store>(
         &mut self,
         _store: &mut S,
-        square: Square,
+        key: CellKey,
         col: u16,
         row: u16,
     ) -> Result<Post, SourceFault>
-        requires held { HasPost (⟦<WholeCells as PostSource>⟧.shapes self.old) square col row }
+        requires held { HasPost (⟦<WholeCells as PostSource>⟧.shapes self.old) key col row }
         ensures value { GivesTold (⟦<WholeCells as PostSource>⟧.cells self.old (S.holds _store.old))
-            (λ told. post_at told square col row) result }
+            (λ told. post_at told key col row) result }
         ensures height { IfOk result IsPost }
         // It needs no store: whatever store is lent, the answer is Ok, and cells and store stay as they were.
         ensures sure { IsOk result }
         ensures same { self.new ≡ self.old }
         ensures unused { _store.new ≡ _store.old }
     {
-        let Some(cell) = self.cells.get(&square) else {
+        let Some(cell) = self.cells.get(&key) else {
             unreachable!()
         };
         Ok(post_of(cell, col, row))

@@ -1,4 +1,5 @@
 pub mod Enclosing
+pub mod GridLines
 pub mod Ends
 pub mod Radii
 pub mod Sizes

@@ -1,3 +1,4 @@
 pub mod Bounds
 pub mod Box
 pub mod Ellipsoid
+pub mod Lines

@@ -7,7 +7,7 @@ ghost use Rattle.ecef_boxes.specs.Box.{box_of, down_of, ends_of, latitude_of, lo
 ghost use Rattle.ecef_boxes.specs.Ellipsoid.{Encloses};
 
 use crate::EcefBox;
-use crate::ellipsoid::{along_axis, from_axis, radii};
+use crate::line::{Meridian, Parallel, box_at};
 use terrain_base::{ceil_div, floor_div};
 use tms_tree::Place;
 use whole_interval::{Interval, SineCosine, half_turn, mul};
@@ -16,7 +16,7 @@ use whole_interval::{Interval, SineCosine, half_turn, mul};
 const UNIT: i128 = 0x100_0000_0000;
 
 // The place's latitude.
-fn latitude(place: Place) -> SineCosine
+pub fn latitude(place: Place) -> SineCosine
     requires { IsPlace place }
     ensures exact { result ≡ latitude_of place }
     ensures sine { IsInside (9 * 2 ^ 45) result.sine }
@@ -26,7 +26,7 @@ fn latitude(place: Place) -> SineCosine
 }
 
 // The place's longitude.
-fn longitude(place: Place) -> SineCosine
+pub fn longitude(place: Place) -> SineCosine
     requires { IsPlace place }
     ensures exact { result ≡ longitude_of place }
     ensures sine { IsInside (9 * 2 ^ 45) result.sine }
@@ -54,7 +54,7 @@ fn up(n: i128) -> i64
 }
 
 // The box of three coordinates.
-fn ends(x: &Interval, y: &Interval, z: &Interval) -> EcefBox
+pub fn ends(x: &Interval, y: &Interval, z: &Interval) -> EcefBox
     requires x { IsInside (521993160 * 2 ^ 42) x.now }
     requires y { IsInside (521993160 * 2 ^ 42) y.now }
     requires z { IsInside (521993160 * 2 ^ 42) z.now }
@@ -72,7 +72,7 @@ fn ends(x: &Interval, y: &Interval, z: &Interval) -> EcefBox
 }
 
 // The distance from the axis, times a sine or a cosine of the longitude.
-fn sideways(out: &Interval, part: &Interval) -> Interval
+pub fn sideways(out: &Interval, part: &Interval) -> Interval
     requires out { IsInside (57999240 * 2 ^ 45) out.now }
     requires part { IsInside (9 * 2 ^ 45) part.now }
     ensures exact { result ≡ mul_of out.now part.now }
@@ -93,13 +93,9 @@ pub fn frame_box(place: Place, metres: i16) -> EcefBox
     ensures encloses { Encloses place metres (radii_at place) result }
     ensures size { IsBoxWithin 31 result }
 {
-    let north = latitude(place);
-    let east = longitude(place);
-    let radii = radii(&north.sine);
-    let out = from_axis(&radii, metres as i128, &north.cosine);
-    ends(
-        &sideways(&out, &east.cosine),
-        &sideways(&out, &east.sine),
-        &along_axis(&radii, metres as i128, &north.sine),
+    box_at(
+        &Meridian::at(place.p, place.d),
+        &Parallel::at(place.q, place.d),
+        metres,
     )
 }

@@ -4,9 +4,11 @@
 mod ecef_box;
 mod ellipsoid;
 mod frame;
+mod line;
 
 pub use ecef_box::EcefBox;
 pub use frame::frame_box;
+pub use line::{Meridian, Parallel, box_at};
 
 #[cfg(test)]
 mod tests;

@@ -17,9 +17,11 @@ ghost use Rattle.std.specs.Prelude.{
   IfOk,
 };
 ghost use Rattle.byteorder.specs.Endian.{little_bytes};
-ghost use Rattle.mesh_codec.specs.Mesh.{IsVertex, IsTriangle, IsEdge, IsEncodable, corners, coordinate};
+ghost use Rattle.mesh_codec.specs.Mesh.{IsVertex, IsTriangle, IsEdge, IsMesh, IsEncodable, corners, coordinate};
+ghost use Rattle.mesh_codec.specs.Tile.{Decodes};
 ghost use Rattle.mesh_codec.specs.Text.{
   point_text,
+  IsHeader,
   header_text,
   zigzag,
   array_text,
@@ -43,7 +45,8 @@ use terrain_base::{Indexes, NoMemory};
 
 /// Adds a point.
 fn put_point(out: &mut Vec<u8>, point: &[u64]) -> Result<(), NoMemory>
-    ensures { OnOk result (out.new.items ≡ out.old.items ++ point_text point.now) }
+    ensures text { OnOk result (out.new.items ≡ out.old.items ++ point_text point.now) }
+    ensures widths { OnOk result (All (λ coordinate. coordinate < 2 ^ 64) point.now) }
 {
     for coordinate in point {
         put_double(out, *coordinate)?;
@@ -54,7 +57,8 @@ fn put_point(out: &mut Vec<u8>, point: &[u64]) -> Result<(), NoMemory>
 /// Adds the header.
 #[tactic(auto, unfolding(crate::specs::Text::header_text))]
 fn put_header(out: &mut Vec<u8>, header: &Header) -> Result<(), NoMemory>
-    ensures { OnOk result (out.new.items ≡ out.old.items ++ header_text header.now) }
+    ensures text { OnOk result (out.new.items ≡ out.old.items ++ header_text header.now) }
+    ensures widths { OnOk result (IsHeader header.now) }
 {
     put_point(out, &header.centre)?;
     put_long(out, header.least)?;
@@ -191,16 +195,28 @@ fn put_indexes(out: &mut Vec<u8>, mesh: &CodeMesh) -> Result<(), NoMemory>
     put_edge(out, mesh.edge(Edge::North), vertices)
 }
 
+/// Adds a header and a mesh.
+#[tactic(auto, unfolding(crate::specs::Text::tile_text))]
+fn put_tile(out: &mut Vec<u8>, header: &Header, mesh: &CodeMesh) -> Result<(), NoMemory>
+    requires { IsEncodable mesh.now }
+    ensures text { OnOk result (out.new.items ≡ out.old.items ++ tile_text header.now mesh.now) }
+    ensures widths { OnOk result (IsHeader header.now) }
+{
+    put_header(out, header)?;
+    put_vertices(out, mesh)?;
+    put_indexes(out, mesh)
+}
+
 /// The bytes of a tile with this header and this mesh, with padding of zeros and without an extension. The
 /// vertices are numbered by first use in the triangles, each is used, and there are not exactly 65536.
-#[tactic(auto, unfolding(crate::specs::Text::tile_text))]
 pub fn encode(alloc: Global, header: &Header, mesh: &CodeMesh) -> Result<Vec<u8>, NoMemory>
     requires { IsEncodable mesh.now }
-    ensures { IfOk result (λ bytes. bytes.items ≡ tile_text header.now mesh.now) }
+    ensures text { IfOk result (λ bytes. bytes.items ≡ tile_text header.now mesh.now) }
+    ensures decodes { IfOk result (λ bytes. Decodes bytes.items header.now mesh.now []) }
 {
     let mut out = Vec::new(alloc);
-    put_header(&mut out, header)?;
-    put_vertices(&mut out, mesh)?;
-    put_indexes(&mut out, mesh)?;
+    put_tile(&mut out, header, mesh)?;
+    let _vertices = mesh.vertices();
+    crate::laws::text_decodes();
     Ok(out)
 }

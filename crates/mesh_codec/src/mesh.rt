@@ -1,6 +1,6 @@
 // A mesh of codes.
 ghost use Rattle.std.specs.Prelude.{◌≡◌, ◌+◌, ◌-◌, ◌^◌, ◌<◌, ◌≤◌, ◌++◌, ◌∷◌, [], length, All, OnOk, OnErr, slice_get, Some};
-ghost use Rattle.mesh_codec.specs.Mesh.{IsVertex, IsTriangle, edge_of, empty_mesh, with_edge};
+ghost use Rattle.mesh_codec.specs.Mesh.{IsVertex, IsTriangle, IsMesh, edge_of, empty_mesh, with_edge};
 
 use crate::{Codes, Edge};
 use std::alloc::Global;
@@ -102,7 +102,8 @@ impl CodeMesh {
 
     /// How many vertices there are.
     pub fn vertices(&self) -> u32
-        ensures { result ≡ length self.now.vertices }
+        ensures count { result ≡ length self.now.vertices }
+        ensures mesh { IsMesh self.now }
     {
         self.vertices.len() as u32
     }

@@ -25,3 +25,5 @@ pub mod Covers
 pub mod QuadLines
 pub mod QuadHeights
 pub mod Surfaces
+pub mod SurfaceLaws
+pub mod Rescales

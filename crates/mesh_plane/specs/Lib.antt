@@ -7,3 +7,5 @@ pub mod Strip
 pub mod Join
 pub mod Continuity
 pub mod Quadtree
+pub mod SurfaceLaw
+pub mod Rescale

@@ -46,6 +46,23 @@ fn area_at(tri: &Tri, scale: i64) -> i128
     i128::from(scale) * i128::from(doubled(tri))
 }
 
+/// The height of the triangle's plane at the point (u/scale, v/scale), as a fraction of a metre. `under` is
+/// above 0, since the triangle is counter-clockwise.
+pub fn plane_height(tri: &Tri, scale: i64, u: i64, v: i64) -> Gap
+    requires tri { IsTileTri tri.now }
+    requires scale { IsScale scale }
+    requires point { IsTilePoint scale u v }
+    requires counter_clockwise { IsCounterClockwise tri.now }
+    ensures over { result.over ≡ lift_of tri.now scale u v }
+    ensures under { result.under ≡ gap_under tri.now scale }
+    ensures above_zero { pos 0 <ℤ result.under }
+{
+    Gap {
+        over: lift(tri, scale, u, v),
+        under: area_at(tri, scale),
+    }
+}
+
 /// How far `metres` is from the height of the triangle's plane at the point (u/scale, v/scale), as a
 /// fraction of a metre. `under` is above 0, since the triangle is counter-clockwise.
 pub fn height_gap(tri: &Tri, scale: i64, u: i64, v: i64, metres: i32) -> Gap

@@ -4,6 +4,8 @@ ghost use Rattle.mesh_plane.specs.Fan.{FanLaw};
 ghost use Rattle.mesh_plane.specs.Strip.{StripLaw};
 ghost use Rattle.mesh_plane.specs.Join.{JoinLaw};
 ghost use Rattle.mesh_plane.specs.Continuity.{ContinuityLaw};
+ghost use Rattle.mesh_plane.specs.SurfaceLaw.{SurfaceLaw};
+ghost use Rattle.mesh_plane.specs.Rescale.{RescaleLaw};
 
 /// The triangles of a point strictly inside a rectangle with each two neighbours on a ring round it tile
 /// the rectangle. The ring lies on the border, counter-clockwise, and has the rectangle's four corners.
@@ -27,4 +29,15 @@ pub fn join()
 /// point of the line through these.
 pub fn continuity()
     ensures { ContinuityLaw }
+{}
+
+/// Where triangles cover the tile, their surface has exactly one height at each of its points, whatever scale
+/// names the point. A plane's height within its triangle is from the least to the greatest of its corners'.
+pub fn surface()
+    ensures { SurfaceLaw }
+{}
+
+/// Triangles that cover the tile still cover it with their heights in another unit.
+pub fn rescale()
+    ensures { RescaleLaw }
 {}

@@ -7,7 +7,7 @@ mod gap;
 pub mod laws;
 
 pub use corner::{Corner, Tri, side, within};
-pub use gap::{Gap, ceil_gap, height_gap};
+pub use gap::{Gap, ceil_gap, height_gap, plane_height};
 
 #[cfg(test)]
 mod tests;

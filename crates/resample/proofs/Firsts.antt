@@ -1,16 +1,16 @@
 -- The first height among the values of squares.
-use Rattle.std.proofs.Common.{◌≡◌, ℕ, ◌+◌, ◌<◌, ℤ, cond, List, [], ◌∷◌, map, drop, length, get_or, Option, Some, None, is_some, refl, sym, ap, ◌∙◌, arith}
+use Rattle.std.proofs.Common.{◌≡◌, ℕ, ◌+◌, ◌<◌, ℤ, Bool, true, false, cond, List, [], ◌∷◌, map, drop, length, get_or, refl, sym, ap, ◌∙◌, arith}
 use Rattle.std.specs.List.{filter}
-use Rattle.std.specs.FinMap.{get}
 use Rattle.std.proofs.lemmas.List.{at_drop_more, at_drop_all}
 use Rattle.terrain_base.specs.declared.square.Square.{Square}
 use Rattle.terrain_base.specs.declared.post.Post.{Post}
 use Rattle.terrain_base.specs.declared.post.Post.TheVariants.{Void, Metres}
 use Rattle.tms_tree.specs.declared.place.Place.{Place}
-use Rattle.cell_mosaic.specs.Cells.{Cells}
+use Rattle.cell_mosaic.specs.Cells.{Cells, has_cell}
 use Rattle.cell_mosaic.specs.Candidates.{candidates_of}
 use Rattle.cell_mosaic.specs.Value.{value_at}
-use Rattle.resample.specs.Height.{first_height, has_cell, height_at}
+use Rattle.cell_mosaic.proofs.Values.{no_cells}
+use Rattle.resample.specs.Height.{first_height, height_at}
 
 -- the values at the place in the cells of the squares, a void where there is none
 abbrev pub values_at : Cells → Place → List Square → List Post
@@ -21,18 +21,20 @@ in_front : (fill : ℤ) (post : Post) (posts more : List Post) → first_height 
 in_front fill Void posts more e = e
 in_front fill (Metres metres) posts more e = refl
 
+-- a void in front changes nothing
+void_first : (fill : ℤ) (post : Post) (posts : List Post) → post ≡ Void → first_height fill (post ∷ posts) ≡ first_height fill posts
+void_first fill post posts is = rw is refl
+
 -- one that has no cell is passed over
-passed : (fill : ℤ) (here : Option (List ℕ)) (cells : Cells) (square : Square) (place : Place) (squares : List Square) → get cells square ≡ here
+passed : (fill : ℤ) (here : Bool) (cells : Cells) (square : Square) (place : Place) (squares : List Square) → has_cell cells square ≡ here
     → first_height fill (values_at cells place (filter (has_cell cells) squares)) ≡ first_height fill (values_at cells place squares)
-    → first_height fill (values_at cells place (filter (has_cell cells) (square ∷ squares))) ≡ first_height fill (values_at cells place (square ∷ squares))
-passed fill None cells square place squares e rest = rw e rest
-passed fill (Some bytes) cells square place squares e rest =
-    ap (λ o. first_height fill (values_at cells place (cond (is_some o) (square ∷ filter (has_cell cells) squares) (filter (has_cell cells) squares)))) e
-    ∙ in_front fill (value_at cells square place) (values_at cells place (filter (has_cell cells) squares)) (values_at cells place squares) rest
+    → first_height fill (values_at cells place (cond here (square ∷ filter (has_cell cells) squares) (filter (has_cell cells) squares))) ≡ first_height fill (values_at cells place (square ∷ squares))
+passed fill false cells square place squares e rest = rest ∙ sym (void_first fill (value_at cells square place) (values_at cells place squares) (no_cells cells square place e))
+passed fill true cells square place squares e rest = in_front fill (value_at cells square place) (values_at cells place (filter (has_cell cells) squares)) (values_at cells place squares) rest
 
 held_only : (fill : ℤ) (cells : Cells) (place : Place) (squares : List Square) → first_height fill (values_at cells place (filter (has_cell cells) squares)) ≡ first_height fill (values_at cells place squares)
 held_only fill cells place [] = refl
-held_only fill cells place (square ∷ squares) = passed fill (get cells square) cells square place squares refl (held_only fill cells place squares)
+held_only fill cells place (square ∷ squares) = passed fill (has_cell cells square) cells square place squares refl (held_only fill cells place squares)
 
 height_by_values : (fill : ℤ) (cells : Cells) (place : Place) → height_at fill cells place ≡ first_height fill (values_at cells place (candidates_of place))
 unfolding height_at

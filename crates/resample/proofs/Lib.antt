@@ -1,6 +1,7 @@
 pub mod Firsts
 pub mod Grids
-pub mod Keeping
 pub mod Lines
+pub mod Local
 pub mod Places
+pub mod Ranges
 pub mod Turns

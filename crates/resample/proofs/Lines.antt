@@ -1,7 +1,5 @@
 -- The value at a place by the grid lines through it.
 use Rattle.std.proofs.Common.{◌≡◌, ℕ, ◌+◌, ◌-◌, ◌*◌, ◌/◌, ◌%◌, ◌^◌, ◌<◌, ◌≤◌, ◌==◌, ℤ, true, false, List, [], ◌∷◌, length, get_or, set, min, Some, ◌≢◌, ◌⊎◌, inl, inr, refl, sym, ap, ◌∙◌, subst, arith, get_or-set_other, get_or-set_same}
-use Rattle.std.specs.Prelude.{IsSomeAnd}
-use Rattle.std.specs.FinMap.{get}
 use Rattle.std.proofs.lemmas.Bool.{lt-ltb, eqb-true, cases_order}
 use Rattle.std.proofs.lemmas.Nat.{div-add-mod'}
 use Rattle.std.proofs.Math.Nat.{add-mod_left, mod-eq_of_lt, mod-lt, mul-le-mul_right, div-lt_iff_lt-mul, lt_of_mul-lt-mul_right}
@@ -16,7 +14,7 @@ use Rattle.tms_tree.specs.Place.{IsPlace, place_of}
 use Rattle.terrain_base.specs.declared.tile.TileId.{TileId}
 use Rattle.dted_cell.specs.Header.{square_of}
 use Rattle.cell_mosaic.specs.declared.quad.Quad.{Quad}
-use Rattle.cell_mosaic.specs.Cells.{Cells, Shapes, HasPost}
+use Rattle.cell_mosaic.specs.Cells.{Cells}
 use Rattle.cell_mosaic.specs.Blend.{blend_of}
 use Rattle.cell_mosaic.specs.Candidates.{candidates_of}
 use Rattle.cell_mosaic.specs.Value.{east_of, north_of, quad_round, value_in_cell, value_at}
@@ -42,9 +40,6 @@ step_below units d degree posts line p l =
     let less : line.rest * n < n * d = omega arith in
     let below : line.rest * n / d < n = (div-lt_iff_lt-mul {k = d} {x = line.rest * n} {y = n} p).1 less in
     omega (arith, is.post, below)
-
-pub has_post : (shapes : Shapes) (square : Square) (level : CellLevel) (col row : ℕ) → get shapes square ≡ Some level → col < columns_of square level → row < rows_of level → HasPost shapes square col row
-has_post shapes square level col row known c r = subst (λ o. IsSomeAnd o (λ level. (col < columns_of square level) × (row < rows_of level))) (sym known) (c, r)
 
 -- ---- where the place lies in the square
 

@@ -1,7 +1,7 @@
 -- A whole turn of longitude changes no height.
 use Rattle.std.proofs.Common.{◌≡◌, ℕ, ◌+◌, ◌-◌, ◌*◌, ◌/◌, ◌%◌, ◌<◌, ◌≤◌, ◌==◌, ℤ, Bool, true, ◌&&◌, nat_lt, List, [], ◌∷◌, ◌++◌, map, Option, Some, None, inl, inr, refl, sym, ap, ◌∙◌, arith}
 use Rattle.std.specs.Prelude.{if◌then◌else◌}
-use Rattle.std.specs.List.{filter}
+use Rattle.std.specs.List.{filter, find}
 use Rattle.std.specs.FinMap.{get}
 use Rattle.std.proofs.lemmas.Bool.{cases_order}
 use Rattle.std.proofs.Math.Nat.{add-mod_left, mod-eq_of_lt, mul-mod_left, mul-div_cancel, mod_self, zero-div, zero-mod}
@@ -14,11 +14,12 @@ use Rattle.tms_tree.specs.declared.place.Place.{Place}
 use Rattle.tms_tree.specs.Place.{IsPlace, SamePlace}
 use Rattle.dted_cell.specs.Header.{square_of}
 use Rattle.dted_cell.specs.Cell.{level_in, post_in}
-use Rattle.cell_mosaic.specs.Cells.{Cells}
+use Rattle.terrain_base.specs.CellKey.{key_at, all_levels}
+use Rattle.cell_mosaic.specs.Cells.{Cells, has_cell}
 use Rattle.cell_mosaic.specs.Blend.{blend_of}
 use Rattle.cell_mosaic.specs.Candidates.{candidates_of, where_it_is}
-use Rattle.cell_mosaic.specs.Value.{east_of, north_of, quad_at, value_in_cell, value_or_void}
-use Rattle.resample.specs.Height.{first_height, has_cell, height_at}
+use Rattle.cell_mosaic.specs.Value.{east_of, north_of, quad_at, value_in_cell, value_or_void, is_known, known_or_void, value_at}
+use Rattle.resample.specs.Height.{first_height, height_at}
 use Rattle.resample.specs.HeightLaws.{TurnChangesNothing}
 
 -- the candidates by whole degrees
@@ -84,9 +85,13 @@ same_value : (o : Option (List ℕ)) (square : Square) (q d : ℕ) → value_or_
 same_value None square q d = refl
 same_value (Some bytes) square q d = same_in_cell (post_in bytes) square (level_in bytes) q d
 
+same_at : (cells : Cells) (square : Square) (q d : ℕ) → value_at cells square (at 0 q d) ≡ value_at cells square (at (2 * d) q d)
+unfolding value_at
+same_at cells square q d = λ i. known_or_void (find is_known (map (λ level. same_value (get cells (key_at square level)) square q d i) all_levels))
+
 turned : (fill : ℤ) (cells : Cells) (q d : ℕ) → 0 < d → height_at fill cells (at 0 q d) ≡ height_at fill cells (at (2 * d) q d)
 unfolding height_at
-turned fill cells q d p = λ i. first_height fill (map (λ square. same_value (get cells square) square q d i) (filter (has_cell cells) (same_list q d p i)))
+turned fill cells q d p = λ i. first_height fill (map (λ square. same_at cells square q d i) (filter (has_cell cells) (same_list q d p i)))
 
 same_place : (a b : Place) → a.p ≡ b.p → a.q ≡ b.q → a.d ≡ b.d → a ≡ b
 same_place a b p q d = λ i. record { p = p i; q = q i; d = d i }

@@ -1,15 +1,13 @@
 -- The height at a place, and the heights of a tile's grid points.
-use Rattle.std.specs.Prelude.{◌≡◌, ℕ, ◌<◌, ◌/◌, ◌%◌, ℤ, pos, Bool, not, List, map, Option, Some, None, is_some, slice_index_or}
+use Rattle.std.specs.Prelude.{◌≡◌, ℕ, ◌<◌, ◌/◌, ◌%◌, ℤ, pos, not, List, map, Option, Some, None, slice_index_or}
 use Rattle.std.specs.List.{filter, find, range_with_len}
-use Rattle.std.specs.FinMap.{get}
-use Rattle.terrain_base.specs.declared.square.Square.{Square}
 use Rattle.terrain_base.specs.declared.tile.TileId.{TileId}
 use Rattle.terrain_base.specs.declared.post.Post.{Post}
 use Rattle.terrain_base.specs.declared.post.Post.TheVariants.{Void, Metres}
 use Rattle.tms_tree.specs.declared.place.Place.{Place}
 use Rattle.tms_tree.specs.Place.{place_of}
 use Rattle.dted_cell.specs.Cell.{is_void_post}
-use Rattle.cell_mosaic.specs.Cells.{Cells}
+use Rattle.cell_mosaic.specs.Cells.{Cells, has_cell}
 use Rattle.cell_mosaic.specs.Candidates.{candidates_of}
 use Rattle.cell_mosaic.specs.Value.{value_at}
 
@@ -21,9 +19,6 @@ height_or fill (Some (Metres metres)) = metres
 -- the first that is not void, or the fill
 abbrev pub first_height : ℤ → List Post → ℤ
 first_height fill posts = height_or fill (find (λ post. not (is_void_post post)) posts)
-
-abbrev pub has_cell : Cells → Square → Bool
-has_cell cells square = is_some (get cells square)
 
 -- the first value that is not void, in the order of the candidates, of those that have a cell; or the fill
 unfoldable pub height_at : ℤ → Cells → Place → ℤ

@@ -1,49 +1,36 @@
 // The height at a place that lies inside one square.
-ghost use Rattle.std.specs.Prelude.{◌≡◌, ℕ, ◌*◌, ◌<◌, Some, IfOk, IsTrue, IsOk};
-ghost use Rattle.std.specs.FinMap as map;
+ghost use Rattle.std.specs.Prelude.{◌≡◌, true, ℕ, ◌*◌, ◌<◌, Some, IfOk, IsTrue, IsOk};
+ghost use Rattle.std.specs.FinSet as set;
 ghost use Rattle.terrain_base.specs.Level.{rows_of, columns_of};
 ghost use Rattle.terrain_base.specs.Height.{IsHeight};
 ghost use Rattle.tms_tree.specs.Place.{IsPlace};
 ghost use Rattle.cell_mosaic.specs.Cells.{Cells, IsPost};
 ghost use Rattle.cell_mosaic.specs.Source.{FaultHasCause, TroubleIsShown, Keeps};
-ghost use Rattle.cell_mosaic.specs.Value.{value_at};
-ghost use Rattle.resample.specs.Height.{height_at, height_or};
+ghost use Rattle.cell_mosaic.specs.Value.{value_in_key};
+ghost use Rattle.resample.specs.Height.{height_at};
 ghost use Rattle.resample.specs.Line.{IsLine, LiesIn, AreCounts};
 
+use crate::height;
 use crate::counts::{Counts, columns_in, rows_in};
 use crate::line::{Line, turn_to};
 use cell_mosaic::{PostSource, SourceFault, blend, posts_round};
-use terrain_base::{CellLevel, Post, Square, Store};
+use terrain_base::{CellKey, Post, Square, Store};
 use tms_tree::Place;
 
-/// The post's metres, or the fill for a void.
-fn metres_or(post: Post, fill: i16) -> i16
-    requires post { IsPost post }
-    requires fill { IsHeight fill }
-    ensures value { result ≡ height_or fill (Some post) }
-    ensures height { IsHeight result }
-{
-    match post {
-        Post::Metres(metres) => metres,
-        Post::Void => fill,
-    }
-}
-
-/// The value at the place in the square's cell, by the two grid lines through it.
+/// The value at the place in the key's cell, by the two grid lines through it.
 fn value_between<P: PostSource, S: Store>(
     src: &mut P,
     store: &mut S,
-    square: Square,
-    level: CellLevel,
+    key: CellKey,
     place: Place,
     east: &Line,
     north: &Line,
 ) -> Result<Post, SourceFault>
     requires place { IsPlace place }
-    requires known { map.get (P.shapes src.old) square ≡ Some level }
-    requires east { LiesIn (180 * place.p) place.d square.lon (columns_of square level) east.now }
-    requires north { LiesIn (180 * place.q) place.d square.lat (rows_of level) north.now }
-    ensures value { IfOk result (λ post. (told : Cells) → P.cells src.old (S.holds store.old) ≡ Some told → post ≡ value_at told square place) }
+    requires known { set.contains (P.shapes src.old) key ≡ true }
+    requires east { LiesIn (180 * place.p) place.d key.square.lon (columns_of key.square key.level) east.now }
+    requires north { LiesIn (180 * place.q) place.d key.square.lat (rows_of key.level) north.now }
+    ensures value { IfOk result (λ post. (told : Cells) → P.cells src.old (S.holds store.old) ≡ Some told → post ≡ value_in_key told key place) }
     ensures height { IfOk result IsPost }
     ensures sure { IsTrue (P.sure src.old) → IsOk result }
     ensures shown { TroubleIsShown (P.shapes src.old) (S.holds store.old) (P.cells src.old (S.holds store.old)) result }
@@ -54,7 +41,7 @@ fn value_between<P: PostSource, S: Store>(
     let quad = posts_round(
         src,
         store,
-        square,
+        key,
         east.post,
         north.post,
         east.beyond == 0,
@@ -76,7 +63,8 @@ fn square_at(lon: u64, lat: u64) -> Square
     }
 }
 
-/// The height at a place that lies on no whole degree, by the two grid lines through it.
+/// The height at a place that lies on no whole degree, by the two grid lines through it; where the finest cell has a
+/// void there and the square has a coarser one, as at any place.
 pub(crate) fn inside<P: PostSource, S: Store>(
     src: &mut P,
     store: &mut S,
@@ -106,6 +94,12 @@ pub(crate) fn inside<P: PostSource, S: Store>(
     };
     turn_to(east, columns_in(counts, level), place.d);
     turn_to(north, rows_in(level), place.d);
-    let post = value_between(src, store, square, level, place, east, north)?;
-    Ok(metres_or(post, fill))
+    let key = CellKey { square, level };
+    match value_between(src, store, key, place, east, north)? {
+        Post::Metres(metres) => Ok(metres),
+        Post::Void => match src.coarser(key) {
+            Some(_) => height(src, store, fill, place),
+            None => Ok(fill),
+        },
+    }
 }

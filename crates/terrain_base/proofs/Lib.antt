@@ -1,4 +1,5 @@
 pub mod Books
+pub mod KeyOrder
 pub mod NameOrder
 pub mod NameTexts
 pub mod Overwrites

@@ -13,11 +13,15 @@ use Rattle.std.specs.Result.{result_ok}
 use Rattle.std.proofs.lemmas.Str.Pattern.{split_once_first, IsSplitOnceResult}
 use Rattle.std.specs.List.{AllByRecursion, position_or_len, before_first, after_first}
 use Rattle.terrain_base.specs.declared.tile.TileId.{TileId}
+use Rattle.terrain_base.specs.declared.square.Square.{Square}
+use Rattle.terrain_base.specs.declared.level.CellLevel.{CellLevel}
+use Rattle.terrain_base.specs.declared.level.CellLevel.TheVariants.{Zero, One, Two}
 use Rattle.terrain_base.specs.declared.name.Key.{Key}
-use Rattle.terrain_base.specs.declared.name.Key.TheVariants.{Manifest, Layer, Stage, Cell, Terrain, Note}
+use Rattle.terrain_base.specs.declared.name.Key.TheVariants.{Manifest, Layer, Stage, Cell, OldCell, Terrain, Note}
+use Rattle.terrain_base.specs.Level.{level_number}
 use Rattle.terrain_base.specs.SquareText.{digit_of, lat_text, lon_text, square_text}
 use Rattle.terrain_base.specs.Name.{tile_text, text_of}
-use Rattle.terrain_base.specs.NameParts.{stem_of, ending_of}
+use Rattle.terrain_base.specs.NameParts.{cell_stem, level_ending, stem_of, ending_of}
 use Rattle.terrain_base.proofs.SquareTexts.{lat_case, lon_case}
 use Rattle.terrain_base.proofs.TileNumbers.{small_z, small_y, small_x}
 
@@ -68,13 +72,17 @@ plain-lon : (east : Bool) (lon : ℕ) → AllByRecursion IsPlain (lon_case east 
 plain-lon true lon = ((omega arith, omega arith), (plain_digit _, (plain_digit _, (plain_digit _, tt))))
 plain-lon false lon = ((omega arith, omega arith), (plain_digit _, (plain_digit _, (plain_digit _, tt))))
 
+plain-cell : (s : Square) → AllByRecursion IsPlain (cell_stem s)
+plain-cell s =
+    all-append IsPlain (codes "cells/") (square_text s) (search rules)
+    (all-append IsPlain (lat_text s.lat) (lon_text s.lon) (plain-lat (nat_le 90 s.lat) s.lat) (plain-lon (nat_le 180 s.lon) s.lon))
+
 plain-stem : (key : Key) → AllByRecursion IsPlain (stem_of key)
 plain-stem Manifest = search rules
 plain-stem Layer = search rules
 plain-stem Stage = search rules
-plain-stem (Cell s) =
-    all-append IsPlain (codes "cells/") (square_text s) (search rules)
-    (all-append IsPlain (lat_text s.lat) (lon_text s.lon) (plain-lat (nat_le 90 s.lat) s.lat) (plain-lon (nat_le 180 s.lon) s.lon))
+plain-stem (Cell k) = plain-cell k.square
+plain-stem (OldCell s) = plain-cell s
 plain-stem (Terrain t) = plain-tile t
 plain-stem (Note t) = plain-tile t
 
@@ -82,7 +90,7 @@ lacks-plain : (xs : List ℕ) → AllByRecursion IsPlain xs → Lacks 46 xs
 lacks-plain [] p = p
 lacks-plain (x ∷ xs) p = (p.0.0, lacks-plain xs p.1)
 
--- the dot of a name's text is its only one
+-- the part before the dot has none
 pub lacks-stem : (key : Key) → Lacks 46 (stem_of key)
 lacks-stem key = lacks-plain (stem_of key) (plain-stem key)
 
@@ -91,19 +99,12 @@ IsAscii-plain [] p i = omega arith
 IsAscii-plain (x ∷ xs) p zero = p.0.1
 IsAscii-plain (x ∷ xs) p (suc i) = IsAscii-plain xs p.1 i
 
-plain-ending : (key : Key) → AllByRecursion IsPlain (ending_of key)
-plain-ending Manifest = search rules
-plain-ending Layer = search rules
-plain-ending Stage = search rules
-plain-ending (Cell s) = search rules
-plain-ending (Terrain t) = search rules
-plain-ending (Note t) = search rules
-
 pub parts_of : (key : Key) → text_of key ≡ stem_of key ++ 46 ∷ ending_of key
 parts_of Manifest = refl
 parts_of Layer = refl
 parts_of Stage = refl
-parts_of (Cell s) = simp append_assoc
+parts_of (Cell k) = simp append_assoc
+parts_of (OldCell s) = simp append_assoc
 parts_of (Terrain t) = refl
 parts_of (Note t) = refl
 
@@ -111,8 +112,34 @@ dot_ascii : IsAscii (46 ∷ [])
 dot_ascii zero = omega arith
 dot_ascii (suc i) = omega arith
 
+small_level : (level : CellLevel) → level_number level < 2 ^ 64
+small_level Zero = omega arith
+small_level One = omega arith
+small_level Two = omega arith
+
+one_digit : (n : ℕ) → n < 10 → decimal n ≡ (48 + n) ∷ []
+one_digit n small = decimal_by_steps (λ n ds. n < 10 → ds ≡ (48 + n) ∷ []) (λ n less less'. refl) (λ n ds big p less. absurd (omega arith)) n (omega arith) small
+
+pub decimal_level : (level : CellLevel) → decimal (level_number level) ≡ (48 + level_number level) ∷ []
+decimal_level Zero = one_digit 0 (omega arith)
+decimal_level One = one_digit 1 (omega arith)
+decimal_level Two = one_digit 2 (omega arith)
+
+pub ending_is : (level : CellLevel) → level_ending level ≡ (48 + level_number level) ∷ codes ".dt"
+ending_is level = ap (λ xs. xs ++ codes ".dt") (decimal_level level)
+
+IsAscii-ending : (key : Key) → IsAscii (ending_of key)
+IsAscii-ending Manifest = IsAscii-plain (codes "txt") (search rules)
+IsAscii-ending Layer = IsAscii-plain (codes "json") (search rules)
+IsAscii-ending Stage = IsAscii-plain (codes "dt") (search rules)
+IsAscii-ending (Cell k) = IsAscii-append (decimal (level_number k.level)) (46 ∷ codes "dt") (IsAscii-plain _ (plain-decimal _ (small_level k.level)))
+    (IsAscii-append (46 ∷ []) (codes "dt") dot_ascii (IsAscii-plain (codes "dt") (search rules)))
+IsAscii-ending (OldCell s) = IsAscii-plain (codes "dt") (search rules)
+IsAscii-ending (Terrain t) = IsAscii-plain (codes "terrain") (search rules)
+IsAscii-ending (Note t) = IsAscii-plain (codes "txt") (search rules)
+
 IsAscii-text : (key : Key) → IsAscii (text_of key)
-IsAscii-text key = rw (parts_of key) (IsAscii-append (stem_of key) (46 ∷ ending_of key) (IsAscii-plain _ (plain-stem key)) (IsAscii-append (46 ∷ []) (ending_of key) dot_ascii (IsAscii-plain _ (plain-ending key))))
+IsAscii-text key = rw (parts_of key) (IsAscii-append (stem_of key) (46 ∷ ending_of key) (IsAscii-plain _ (plain-stem key)) (IsAscii-append (46 ∷ []) (ending_of key) dot_ascii (IsAscii-ending key)))
 
 -- ---- a text is cut at a byte that its front lacks
 

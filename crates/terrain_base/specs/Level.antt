@@ -4,6 +4,12 @@ use Rattle.terrain_base.specs.declared.square.Square.{Square}
 use Rattle.terrain_base.specs.declared.level.CellLevel.{CellLevel}
 use Rattle.terrain_base.specs.declared.level.CellLevel.TheVariants.{Zero, One, Two}
 
+-- the number of a level
+abbrev pub level_number : CellLevel → ℕ
+level_number Zero = 0
+level_number One = 1
+level_number Two = 2
+
 -- the spacing in latitude, in arc-seconds
 abbrev pub lat_step_of : CellLevel → ℕ
 lat_step_of Zero = 30

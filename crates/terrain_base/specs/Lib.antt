@@ -1,5 +1,6 @@
 pub mod Book
 pub mod Cause
+pub mod CellKey
 pub mod Division
 pub mod Fail
 pub mod Grid

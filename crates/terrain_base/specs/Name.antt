@@ -4,19 +4,26 @@ use Rattle.std.specs.declared.cmp.Ordering.{Ordering}
 use Rattle.std.specs.Ordering.{nat_cmp, on}
 use Rattle.std.specs.Cmp.Lexicographic.{slice_cmp}
 use Rattle.terrain_base.specs.declared.tile.TileId.{TileId}
+use Rattle.terrain_base.specs.declared.cell_key.CellKey.{CellKey}
 use Rattle.terrain_base.specs.declared.name.Key.{Key}
-use Rattle.terrain_base.specs.declared.name.Key.TheVariants.{Manifest, Layer, Stage, Cell, Terrain, Note}
+use Rattle.terrain_base.specs.declared.name.Key.TheVariants.{Manifest, Layer, Stage, Cell, OldCell, Terrain, Note}
+use Rattle.terrain_base.specs.Level.{level_number}
 use Rattle.terrain_base.specs.SquareText.{square_text}
 
 -- level, column and row in decimal (the TileJSON template `{z}/{x}/{y}`)
 abbrev pub tile_text : TileId → List ℕ
 tile_text tile = decimal tile.z ++ (codes "/" ++ (decimal tile.x ++ (codes "/" ++ decimal tile.y)))
 
+-- the square's text and the number of the level, with something between them
+abbrev pub key_text : List ℕ → CellKey → List ℕ
+key_text between key = square_text key.square ++ (between ++ decimal (level_number key.level))
+
 abbrev pub text_of : Key → List ℕ
 text_of Manifest = codes "manifest.txt"
 text_of Layer = codes "layer.json"
 text_of Stage = codes "stage.dt"
-text_of (Cell square) = codes "cells/" ++ (square_text square ++ codes ".dt")
+text_of (Cell key) = codes "cells/" ++ (key_text (codes ".") key ++ codes ".dt")
+text_of (OldCell square) = codes "cells/" ++ (square_text square ++ codes ".dt")
 text_of (Terrain tile) = tile_text tile ++ codes ".terrain"
 text_of (Note tile) = tile_text tile ++ codes ".txt"
 

@@ -1,6 +1,9 @@
 -- What names are held to.
 use Rattle.std.specs.Prelude.{◌≡◌}
 use Rattle.terrain_base.specs.declared.square.Square.{Square}
+use Rattle.std.specs.declared.cmp.Ordering.TheVariants.{Equal}
+use Rattle.terrain_base.specs.declared.cell_key.CellKey.{CellKey}
+use Rattle.terrain_base.specs.CellKey.{key_cmp}
 use Rattle.terrain_base.specs.declared.name.Key.{Key}
 use Rattle.terrain_base.specs.SquareText.{square_text}
 use Rattle.terrain_base.specs.Name.{text_of}
@@ -8,6 +11,10 @@ use Rattle.terrain_base.specs.Name.{text_of}
 -- squares with one text are one square
 abbrev pub SquaresDiffer : Type 0
 SquaresDiffer = (a b : Square) → square_text a ≡ square_text b → a ≡ b
+
+-- keys that stand at one place in the order are one key
+abbrev pub KeysDiffer : Type 0
+KeysDiffer = (a b : CellKey) → key_cmp a b ≡ Equal → a ≡ b
 
 -- names with one text are one name
 abbrev pub NamesDiffer : Type 0

@@ -3,15 +3,27 @@
 ghost use Rattle.std.specs.Prelude.{◌≡◌};
 ghost use Rattle.terrain_base.specs.declared.square.Square.{Square};
 ghost use Rattle.terrain_base.specs.declared.tile.TileId.{TileId};
+ghost use Rattle.terrain_base.specs.declared.cell_key.CellKey.{CellKey};
+ghost use Rattle.terrain_base.specs.CellKey.{key_cmp};
 ghost use Rattle.terrain_base.specs.SquareOrder.{square_cmp};
 ghost use Rattle.terrain_base.specs.TileOrder.{tile_cmp};
-ghost use Rattle.terrain_base.specs.NameLaws.{SquaresDiffer, NamesDiffer};
+ghost use Rattle.terrain_base.specs.NameLaws.{KeysDiffer, SquaresDiffer, NamesDiffer};
 ghost use Rattle.terrain_base.specs.StoreLaws.{PutsOne, DeletesOne, AbsentStays, NamesAscend};
 ghost use Rattle.terrain_base.specs.StoreLaws.{StepsAreLogged, Overwrites, StopsLeaveOthers, StopsLogAFront};
 
 /// Squares are ordered by latitude, then longitude.
 pub fn squares_ascend()
     ensures { (a b : Square) → ⟦<crate::Square as Ord>⟧.cmp a b ≡ square_cmp a b }
+{}
+
+/// Keys are ordered by square, then level 2, 1, 0.
+pub fn keys_ascend()
+    ensures { (a b : CellKey) → ⟦<crate::CellKey as Ord>⟧.cmp a b ≡ key_cmp a b }
+{}
+
+/// Different keys stand at different places in the order.
+pub fn keys_differ()
+    ensures { KeysDiffer }
 {}
 
 /// Tiles are ordered by level, then row, then column.

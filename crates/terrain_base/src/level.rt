@@ -1,6 +1,6 @@
 // The levels of DTED cells, and the spacing of their posts (MIL-PRF-89020).
-ghost use Rattle.std.specs.Prelude.{◌≡◌, ◌<◌, min};
-ghost use Rattle.terrain_base.specs.Level.{lat_step_of, depth_of, zone_factor_of, lon_step_of, rows_of, columns_of};
+ghost use Rattle.std.specs.Prelude.{◌≡◌, ◌<◌, ◌≤◌, min};
+ghost use Rattle.terrain_base.specs.Level.{level_number as number_of, lat_step_of, depth_of, zone_factor_of, lon_step_of, rows_of, columns_of};
 
 use crate::Square;
 
@@ -10,6 +10,18 @@ pub enum CellLevel {
     Zero,
     One,
     Two,
+}
+
+/// The number of a level: 0, 1 or 2.
+pub fn level_number(level: CellLevel) -> u8
+    ensures value { result ≡ number_of level }
+    ensures within { result ≤ 2 }
+{
+    match level {
+        CellLevel::Zero => 0,
+        CellLevel::One => 1,
+        CellLevel::Two => 2,
+    }
 }
 
 /// The spacing of a level's posts in latitude, in arc-seconds: 30, 3 or 1.

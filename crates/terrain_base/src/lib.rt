@@ -2,6 +2,7 @@
 //! and the outside.
 #![tactic(auto)]
 
+mod cell_key;
 mod division;
 mod fail;
 mod fault;
@@ -30,12 +31,13 @@ mod text;
 mod tile;
 mod work;
 
+pub use cell_key::CellKey;
 pub use division::{ceil_div, floor_div, isqrt};
 pub use fail::Fail;
 pub use fault::{DeviceFault, NoMemory};
 pub use grid::{Grid, grid_line, tolerance};
 pub use indexes::Indexes;
-pub use level::{CellLevel, columns, depth, lat_step, lon_step, rows};
+pub use level::{CellLevel, columns, depth, lat_step, level_number, lon_step, rows};
 pub use library::{Fetched, Library};
 pub use mem_library::MemLibrary;
 pub use mem_sink::MemSink;

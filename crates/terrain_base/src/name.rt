@@ -8,7 +8,7 @@ ghost use Rattle.std.specs.Ordering.{on, as_partial_cmp};
 ghost use Rattle.terrain_base.specs.Name.{text_of, tile_text, by_text};
 
 use crate::text::Text;
-use crate::{Square, TileId};
+use crate::{CellKey, Square, TileId, level_number};
 use std::cmp::Ordering;
 use std::marker::Model;
 
@@ -21,8 +21,10 @@ pub enum Key {
     Layer,
     /// The bytes of a cell that is being put, `stage.dt`.
     Stage,
-    /// A cell, such as `cells/n47e008.dt`.
-    Cell(Square),
+    /// A cell, such as `cells/n47e008.2.dt`.
+    Cell(CellKey),
+    /// A cell of a database of version 1, such as `cells/n47e008.dt`.
+    OldCell(Square),
     /// A tile's mesh, `Z/X/Y.terrain`.
     Terrain(TileId),
     /// A tile's note, `Z/X/Y.txt`.
@@ -152,16 +154,33 @@ impl Name {
         }
     }
 
-    /// The cell of a square, such as `cells/n47e008.dt`.
-    pub fn cell(square: Square) -> Name
-        ensures { result ≡ Key.Cell square }
+    /// The cell of a key, such as `cells/n47e008.2.dt`.
+    #[tactic(auto, using(crate::proofs::NameTexts::decimal_level))]
+    pub fn cell(key: CellKey) -> Name
+        ensures { result ≡ Key.Cell key }
+    {
+        let mut text = Text::new();
+        text.push_all(b"cells/");
+        text.push_all(&key.square.text());
+        text.push(b'.');
+        text.push(b'0' + level_number(key.level));
+        text.push_all(b".dt");
+        Name {
+            key: Key::Cell(key),
+            text,
+        }
+    }
+
+    /// The cell of a square in a database of version 1, such as `cells/n47e008.dt`.
+    pub fn old_cell(square: Square) -> Name
+        ensures { result ≡ Key.OldCell square }
     {
         let mut text = Text::new();
         text.push_all(b"cells/");
         text.push_all(&square.text());
         text.push_all(b".dt");
         Name {
-            key: Key::Cell(square),
+            key: Key::OldCell(square),
             text,
         }
     }

@@ -2,10 +2,12 @@
 ghost use Rattle.std.specs.Prelude.{◌≡◌, ◌≢◌, Some, IfSome, IfNone};
 ghost use Rattle.terrain_base.specs.declared.name.Key as key;
 ghost use Rattle.terrain_base.specs.declared.tile.TileId as tile;
+ghost use Rattle.terrain_base.specs.declared.square.Square as square;
+ghost use Rattle.terrain_base.specs.declared.level.CellLevel as level;
 ghost use Rattle.terrain_base.specs.Name.{text_of, tile_text};
-ghost use Rattle.terrain_base.specs.NameParts.{stem_of, ending_of};
+ghost use Rattle.terrain_base.specs.NameParts.{cell_stem, level_ending, stem_of, ending_of};
 
-use crate::{Name, Square, TileId};
+use crate::{CellKey, CellLevel, Name, Square, TileId};
 use std::str;
 
 // The tile whose numbers the text gives. Where they are no tile's, maybe a tile all the same.
@@ -17,7 +19,28 @@ fn guess_tile(text: &str) -> Option<TileId>
     TileId::of(z.parse().ok()?, x.parse().ok()?, y.parse().ok()?)
 }
 
-// The name with these parts round its dot. Where they are no name's, maybe a name all the same.
+// The square of the cell whose name begins so. `None` exactly where it is no cell's.
+fn square_of_stem(stem: &str) -> Option<Square>
+    ensures some { IfSome result (λ square. stem.now ≡ cell_stem square) }
+    ensures none { IfNone result ((square : square.Square) → stem.now ≢ cell_stem square) }
+{
+    Square::read(stem.as_bytes().strip_prefix(b"cells/")?)
+}
+
+// The level of the cell whose name ends so. `None` exactly where it is no cell's.
+fn level_of_ending(ending: &str) -> Option<CellLevel>
+    ensures some { IfSome result (λ level. ending.now ≡ level_ending level) }
+    ensures none { IfNone result ((level : level.CellLevel) → ending.now ≢ level_ending level) }
+{
+    match ending {
+        "0.dt" => Some(CellLevel::Zero),
+        "1.dt" => Some(CellLevel::One),
+        "2.dt" => Some(CellLevel::Two),
+        _ => None,
+    }
+}
+
+// The name with these parts round its first dot. Where they are no name's, maybe a name all the same.
 fn guess_parts(stem: &str, ending: &str) -> Option<Name>
     ensures { (wanted : key.Key) → stem.now ≡ stem_of wanted → ending.now ≡ ending_of wanted → result ≡ Some wanted }
 {
@@ -25,13 +48,14 @@ fn guess_parts(stem: &str, ending: &str) -> Option<Name>
         ("manifest", "txt") => Some(Name::manifest()),
         ("layer", "json") => Some(Name::layer()),
         ("stage", "dt") => Some(Name::stage()),
-        (_, "dt") => {
-            let square = Square::read(stem.as_bytes().strip_prefix(b"cells/")?)?;
-            Some(Name::cell(square))
-        }
+        (_, "dt") => Some(Name::old_cell(square_of_stem(stem)?)),
         (_, "terrain") => Some(Name::terrain(guess_tile(stem)?)),
         (_, "txt") => Some(Name::note(guess_tile(stem)?)),
-        _ => None,
+        _ => {
+            let square = square_of_stem(stem)?;
+            let level = level_of_ending(ending)?;
+            Some(Name::cell(CellKey { square, level }))
+        }
     }
 }
 

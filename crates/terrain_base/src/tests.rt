@@ -3,12 +3,17 @@ use super::*;
 #[test]
 fn names_of_all_kinds_are_read_back(rt: HostRuntime) {
     let square = Square::of(188, 137).expect(&rt, "a square");
+    let key = CellKey {
+        square,
+        level: CellLevel::Two,
+    };
     let tile = TileId::of(14, 32767, 16383).expect(&rt, "a tile");
     for (name, text) in [
         (Name::manifest(), "manifest.txt"),
         (Name::layer(), "layer.json"),
         (Name::stage(), "stage.dt"),
-        (Name::cell(square), "cells/n47e008.dt"),
+        (Name::cell(key), "cells/n47e008.2.dt"),
+        (Name::old_cell(square), "cells/n47e008.dt"),
         (Name::terrain(tile), "14/32767/16383.terrain"),
         (Name::note(tile), "14/32767/16383.txt"),
     ] {
@@ -34,6 +39,13 @@ fn other_texts_are_no_names(rt: HostRuntime) {
         "cells/n00w000.dt",
         "cells/n00w181.dt",
         "cells/n00e000.dt0",
+        "cells/n00e000.3.dt",
+        "cells/n00e000.00.dt",
+        "cells/n00e000..dt",
+        "cells/n00e000.0",
+        "cells/n00e000.0.txt",
+        "manifest.0.dt",
+        "n00e000.0.dt",
         "15/0/0.terrain",
         "0/2/0.terrain",
         "0/0/1.terrain",

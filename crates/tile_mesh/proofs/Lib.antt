@@ -15,6 +15,7 @@ pub mod KeptLists
 pub mod LeafHeights
 pub mod LeafLists
 pub mod LeafPlaces
+pub mod Lengths
 pub mod Made
 pub mod MergeOrder
 pub mod Merges
@@ -25,3 +26,4 @@ pub mod Placing
 pub mod Ranges
 pub mod Steps
 pub mod StripRuns
+pub mod VertexHeights

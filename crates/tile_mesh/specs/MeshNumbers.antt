@@ -1,5 +1,6 @@
 -- The numbers of vertices in the mesh of each grid.
-use Rattle.std.specs.Prelude.{ℕ, ◌<◌, ◌≤◌, ℤ, List, [], ◌∷◌, length, take, flat_map, slice_index, All, Contains}
+use Rattle.std.specs.Prelude.{◌≡◌, ℕ, ◌<◌, ◌≤◌, ℤ, List, [], ◌∷◌, length, take, flat_map, slice_index, All, Contains}
+use Rattle.terrain_base.specs.Grid.{height_in}
 use Rattle.terrain_base.specs.declared.indexes.Indexes.{Indexes}
 use Rattle.tile_mesh.specs.declared.side.Side.{Side}
 use Rattle.tile_mesh.specs.declared.point.MeshPoint.{MeshPoint}
@@ -37,3 +38,11 @@ pub record IsNumbered (mesh : Mesh) : Type 0 where
 
 abbrev pub NumberedLaw : Type 0
 NumberedLaw = (grid : List ℤ) (z : ℕ) → IsNumbered (mesh_of_grid grid z)
+
+-- at most 130 triangles in each strip, and 2 for each of the 64 by 64 squares of the quadtree
+abbrev pub FewTrianglesLaw : Type 0
+FewTrianglesLaw = (grid : List ℤ) (z : ℕ) → length (mesh_of_grid grid z).triangles ≤ 8712
+
+-- each vertex has the height of its grid point
+abbrev pub VertexHeightLaw : Type 0
+VertexHeightLaw = (grid : List ℤ) (z : ℕ) → All (λ p. p.metres ≡ height_in grid p.i p.j) (mesh_of_grid grid z).points

@@ -5,7 +5,7 @@ ghost use Rattle.tile_mesh.specs.InnerPoints.{InnerLaw};
 ghost use Rattle.tile_mesh.specs.Laws.{CoverLaw, EdgeLaw, ToleranceLaw};
 ghost use Rattle.tile_mesh.specs.LeafTriangles.{LeafLaw};
 ghost use Rattle.tile_mesh.specs.Merging.{MergeLaw};
-ghost use Rattle.tile_mesh.specs.MeshNumbers.{NumberedLaw};
+ghost use Rattle.tile_mesh.specs.MeshNumbers.{NumberedLaw, FewTrianglesLaw, VertexHeightLaw};
 ghost use Rattle.tile_mesh.specs.Numbering.{NumberingLaw};
 
 /// The triangles of a mesh are counter-clockwise and cover the tile once, with one height at each rational
@@ -54,4 +54,14 @@ pub fn inner_line()
 /// that is not split, and is the root or has a split parent, comes once.
 pub fn leaf_triangles()
     ensures { LeafLaw }
+{}
+
+/// A mesh has at most 8712 triangles.
+pub fn few_triangles()
+    ensures { FewTrianglesLaw }
+{}
+
+/// Each vertex of a mesh has the height of its grid point.
+pub fn vertex_heights()
+    ensures { VertexHeightLaw }
 {}

@@ -1,10 +1,10 @@
 use Rattle.std.proofs.Common.{ap, ◌∙◌}
-use Rattle.std.specs.FinMap.{get, get-empty}
-use Rattle.terrain_base.specs.SquareOrder.{square_cmp}
-use Rattle.dted_cell.specs.Cell.{square_in}
+use Rattle.std.specs.FinSet.{contains, contains-empty}
+use Rattle.terrain_base.specs.CellKey.{key_cmp}
 use Rattle.cell_mosaic.specs.Cells.{Shapes}
+use Rattle.cell_mosaic.specs.Whole.{key_in}
 use Rattle.cell_mosaic.proofs.tests.a_cell_in_memory_gives_its_posts.Goals as goal
 
 pub put-requires : goal.put-requires
 put-requires g c =
-    ap (λ (shapes : Shapes). get shapes (square_in c.expect-cell.result)) c.new-cells.ensures.shapes ∙ get-empty square_cmp (square_in c.expect-cell.result)
+    ap (λ (shapes : Shapes). contains shapes (key_in c.expect-cell.result)) c.new-cells.ensures.shapes ∙ contains-empty key_cmp (key_in c.expect-cell.result)

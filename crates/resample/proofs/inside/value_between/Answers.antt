@@ -1,26 +1,26 @@
 use Rattle.std.proofs.Common.{arith}
 use Rattle.cell_mosaic.specs.Cells.{post_at}
 use Rattle.cell_mosaic.proofs.Values.{told_value}
-use Rattle.resample.proofs.Lines.{step_below, has_post, value_by_lines}
+use Rattle.resample.proofs.Lines.{step_below, value_by_lines}
 use Rattle.resample.proofs.inside.value_between.Goals as goal
 
 pub posts_round-requires-clause-sw : goal.posts_round-requires-clause-sw
 posts_round-requires-clause-sw g c =
     let e = step_below _ _ _ _ c.args.east.now c.requires.place.positive c.requires.east in
     let n = step_below _ _ _ _ c.args.north.now c.requires.place.positive c.requires.north in
-    has_post _ c.args.square c.args.level _ _ c.requires.known (omega (arith, e)) (omega (arith, n))
+    record { held = c.requires.known; in_col = omega (arith, e); in_row = omega (arith, n) }
 
 pub posts_round-requires-clause-se : goal.posts_round-requires-clause-se
 posts_round-requires-clause-se g c off =
     let e = step_below _ _ _ _ c.args.east.now c.requires.place.positive c.requires.east in
     let n = step_below _ _ _ _ c.args.north.now c.requires.place.positive c.requires.north in
-    has_post _ c.args.square c.args.level _ _ c.requires.known (omega (arith, e)) (omega (arith, n))
+    record { held = c.requires.known; in_col = omega (arith, e); in_row = omega (arith, n) }
 
 pub posts_round-requires-clause-nw : goal.posts_round-requires-clause-nw
 posts_round-requires-clause-nw g c off =
     let e = step_below _ _ _ _ c.args.east.now c.requires.place.positive c.requires.east in
     let n = step_below _ _ _ _ c.args.north.now c.requires.place.positive c.requires.north in
-    has_post _ c.args.square c.args.level _ _ c.requires.known (omega (arith, e)) (omega (arith, n))
+    record { held = c.requires.known; in_col = omega (arith, e); in_row = omega (arith, n) }
 
 pub posts_round-requires-clause-small : goal.posts_round-requires-clause-small
 posts_round-requires-clause-small g c =
@@ -30,7 +30,8 @@ posts_round-requires-clause-small g c =
 
 pub returns-clause-value : goal.returns-clause-value
 returns-clause-value g c told is =
-    told_value told (g.P.PostSource.shapes c.args.src.now) c.args.square c.args.level c.args.place c.blend.result
+    let key = c.args.key in
+    told_value told (g.P.PostSource.shapes c.args.src.now) key c.args.place c.blend.result
     (g.met.P.PostSource.agree c.args.src.now (g.S.Store.holds c.args.store.now) told is) c.requires.known
-    (value_by_lines (post_at told c.args.square) c.args.square c.args.level c.args.place c.args.east.now c.args.north.now c.in_ok-quad.quad c.blend.result c.requires.place c.requires.east c.requires.north
+    (value_by_lines (post_at told key) key.square key.level c.args.place c.args.east.now c.args.north.now c.in_ok-quad.quad c.blend.result c.requires.place c.requires.east c.requires.north
     (c.in_ok-quad.ensures.value told is) c.blend.ensures.value)

@@ -4,10 +4,11 @@ use Rattle.tms_tree.specs.declared.place.Place.{Place}
 use Rattle.tms_tree.specs.Place.{place_of}
 use Rattle.terrain_base.specs.Grid.{spot}
 use Rattle.cell_mosaic.proofs.Sums.{height_fits}
+use Rattle.cell_mosaic.specs.Source.{TroubleIsShown}
 use Rattle.resample.specs.Height.{HasFirst}
 use Rattle.resample.specs.Line.{IsLine}
 use Rattle.resample.proofs.Grids.{first_more, height_at_spot}
-use Rattle.resample.proofs.Keeping.{keeps_on, told_next}
+use Rattle.cell_mosaic.proofs.Keeping.{keeps_on, told_next, fault_before, err_shown}
 use Rattle.resample.proofs.Lines.{each_set, counts_here, turned}
 use Rattle.resample.proofs.tile.fill_row.Goals as goal
 
@@ -55,3 +56,9 @@ returns-clause-value g c told is first =
     subst (λ (i : ℕ). HasFirst c.args.fill told tile c.loop-i.out (67 * c.args.j + i)) end
     (subst (λ (fill : ℤ). HasFirst fill told tile c.args.out.now (67 * c.args.j) → HasFirst fill told tile c.loop-i.out (67 * c.args.j + c.loop-i.i)) (to_z-of_z w16 c.args.fill c.ranges.fill)
     (c.loop-i.invariant.2 told is) first)
+
+pub returns-in_err-metres-clause-shown : goal.returns-in_err-metres-clause-shown
+returns-in_err-metres-clause-shown g c =
+    let before = c.loop-i.invariant.0 in
+    err_shown _ _ _ c.from_residual.result c.in_err-metres.field-0.0 c.from_residual.ensures.1
+    (fault_before before c.in_err-metres.field-0.0 (subst (TroubleIsShown _ _ _) c.in_err-metres.was c.point.ensures.shown))

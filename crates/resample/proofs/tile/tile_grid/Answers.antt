@@ -2,7 +2,7 @@ use Rattle.std.proofs.Common.{◌≡◌, ℤ, ◌*◌, ◌+◌, arith, subst, w1
 use Rattle.std.proofs.lemmas.Int.{to_z-of_z}
 use Rattle.resample.specs.Height.{HasFirst}
 use Rattle.resample.proofs.Grids.{is_grid}
-use Rattle.resample.proofs.Keeping.{keeps_on, told_next}
+use Rattle.cell_mosaic.proofs.Keeping.{keeps_on, told_next}
 use Rattle.resample.proofs.tile.tile_grid.Goals as goal
 
 pub loop-j-preserved : goal.loop-j-preserved

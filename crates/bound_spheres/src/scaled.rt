@@ -1,0 +1,127 @@
+// Numbers scaled by the axes of the ellipsoid.
+ghost use Rattle.std.specs.Prelude.{◌≡◌, ◌≤◌, ◌^◌, All, unsigned_abs};
+ghost use Rattle.ecef_boxes.specs.Bounds.{IsBoxWithin};
+ghost use Rattle.bound_spheres.specs.Horizon.{IsVectorWithin, equatorial_down, equatorial_up, polar_down, polar_up};
+ghost use Rattle.bound_spheres.specs.Horizon.{scaled_centre, scaled_corners};
+ghost use Rattle.bound_spheres.specs.Sphere.{IsCentreWithin};
+
+use crate::Sphere;
+use crate::horizon_point::{INVERSE_FLATTENING, SEMI_MAJOR_AXIS, SEMI_MINOR_AXIS};
+use ecef_boxes::EcefBox;
+use terrain_base::{ceil_div, floor_div};
+
+// 2^18 over 2^8.
+const SCALE: i128 = 0x400;
+
+/// A vector in units of 2^-18 of the ellipsoid's axes.
+#[derive(Clone, Copy, Debug, PartialEq, Eq)]
+pub struct Vector {
+    pub x: i64,
+    pub y: i64,
+    pub z: i64,
+}
+
+// A number of the x or y axis, rounded down.
+fn equatorial_low(n: i64) -> i64
+    requires { unsigned_abs n ≤ 2 ^ 33 }
+    ensures exact { result ≡ equatorial_down n }
+    ensures size { unsigned_abs result ≤ 2 ^ 21 }
+{
+    floor_div(n as i128 * SCALE, SEMI_MAJOR_AXIS) as i64
+}
+
+// Rounded up.
+fn equatorial_high(n: i64) -> i64
+    requires { unsigned_abs n ≤ 2 ^ 33 }
+    ensures exact { result ≡ equatorial_up n }
+    ensures size { unsigned_abs result ≤ 2 ^ 21 }
+{
+    ceil_div(n as i128 * SCALE, SEMI_MAJOR_AXIS) as i64
+}
+
+// A number of the z axis, rounded down.
+fn polar_low(n: i64) -> i64
+    requires { unsigned_abs n ≤ 2 ^ 33 }
+    ensures exact { result ≡ polar_down n }
+    ensures size { unsigned_abs result ≤ 2 ^ 21 }
+{
+    floor_div(n as i128 * (SCALE * INVERSE_FLATTENING), SEMI_MINOR_AXIS) as i64
+}
+
+// Rounded up.
+fn polar_high(n: i64) -> i64
+    requires { unsigned_abs n ≤ 2 ^ 33 }
+    ensures exact { result ≡ polar_up n }
+    ensures size { unsigned_abs result ≤ 2 ^ 21 }
+{
+    ceil_div(n as i128 * (SCALE * INVERSE_FLATTENING), SEMI_MINOR_AXIS) as i64
+}
+
+/// The scaled centre.
+pub fn centre_of(sphere: &Sphere) -> Vector
+    requires { IsCentreWithin 33 sphere.now }
+    ensures exact { result ≡ scaled_centre sphere.now }
+    ensures size { IsVectorWithin 21 result }
+{
+    Vector {
+        x: equatorial_low(sphere.x),
+        y: equatorial_low(sphere.y),
+        z: polar_low(sphere.z),
+    }
+}
+
+/// The corners of the scaled box.
+pub fn corners_of(corners: &EcefBox) -> [Vector; 8]
+    requires { IsBoxWithin 33 corners.now }
+    ensures exact { result ≡ scaled_corners corners.now }
+    ensures size { All (IsVectorWithin 21) result }
+{
+    let west = equatorial_low(corners.x_lo);
+    let east = equatorial_high(corners.x_hi);
+    let near = equatorial_low(corners.y_lo);
+    let far = equatorial_high(corners.y_hi);
+    let low = polar_low(corners.z_lo);
+    let high = polar_high(corners.z_hi);
+    [
+        Vector {
+            x: west,
+            y: near,
+            z: low,
+        },
+        Vector {
+            x: west,
+            y: near,
+            z: high,
+        },
+        Vector {
+            x: west,
+            y: far,
+            z: low,
+        },
+        Vector {
+            x: west,
+            y: far,
+            z: high,
+        },
+        Vector {
+            x: east,
+            y: near,
+            z: low,
+        },
+        Vector {
+            x: east,
+            y: near,
+            z: high,
+        },
+        Vector {
+            x: east,
+            y: far,
+            z: low,
+        },
+        Vector {
+            x: east,
+            y: far,
+            z: high,
+        },
+    ]
+}

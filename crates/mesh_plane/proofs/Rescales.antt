@@ -1,0 +1,137 @@
+-- The law of heights in another unit.
+use Rattle.std.proofs.Common.{◌≡◌, ℕ, refl, ap, sym, arith, ◌∙◌, List, [], ◌∷◌, map, inl, inr}
+use Rattle.std.specs.Prelude.{ℤ, pos, ◌+ℤ◌, ◌*ℤ◌, ◌≤ℤ◌, ◌⊎◌, All, Any, AllPairs}
+use Rattle.std.specs.List.{AllByRecursion}
+use Rattle.std.proofs.lemmas.Int.{ints}
+use Rattle.polynomial.proofs.Expressions.{Expr, var, add, mul}
+use Rattle.polynomial.proofs.NormalForm.{by_ring}
+use Rattle.mesh_plane.specs.declared.corner.Tri.{Tri}
+use Rattle.mesh_plane.specs.Plane.{Point, side_of, doubled_area, IsCounterClockwise, Holds, HoldsStrictly}
+use Rattle.mesh_plane.specs.Surface.{lift_of, SameHeight}
+use Rattle.mesh_plane.specs.Cover.{Covers, HeldOnce, OneHeight}
+use Rattle.mesh_plane.specs.Triangles.{Triple}
+use Rattle.mesh_plane.specs.Rescale.{tri_by, RescaleLaw}
+use Rattle.mesh_plane.proofs.Heights.{cancelled}
+use Rattle.mesh_plane.proofs.SurfaceLaws.{sides_sum}
+use Rattle.mesh_plane.proofs.ListWords.{all_from, all_to, any_here, any_there, any_none, any_cases, pairs_none, pairs_cons, pairs_head, pairs_tail}
+
+mixed : (n k m a b c d e f i j l : ℤ) → n *ℤ a ≡ k +ℤ m *ℤ d → n *ℤ b ≡ k +ℤ m *ℤ e → n *ℤ c ≡ k +ℤ m *ℤ f
+    → n *ℤ ((a *ℤ i +ℤ b *ℤ j) +ℤ c *ℤ l) ≡ k *ℤ ((i +ℤ j) +ℤ l) +ℤ m *ℤ ((d *ℤ i +ℤ e *ℤ j) +ℤ f *ℤ l)
+mixed n k m a b c d e f i j l x y z =
+    by_ring (mul (var 0) (add (add (mul (var 1) (var 4)) (mul (var 2) (var 5))) (mul (var 3) (var 6))))
+    (add (add (mul (mul (var 0) (var 1)) (var 4)) (mul (mul (var 0) (var 2)) (var 5))) (mul (mul (var 0) (var 3)) (var 6)))
+    (n ∷ a ∷ b ∷ c ∷ i ∷ j ∷ l ∷ []) refl
+    ∙ ap (λ v. (v *ℤ i +ℤ (n *ℤ b) *ℤ j) +ℤ (n *ℤ c) *ℤ l) x
+    ∙ ap (λ v. ((k +ℤ m *ℤ d) *ℤ i +ℤ v *ℤ j) +ℤ (n *ℤ c) *ℤ l) y
+    ∙ ap (λ v. ((k +ℤ m *ℤ d) *ℤ i +ℤ (k +ℤ m *ℤ e) *ℤ j) +ℤ v *ℤ l) z
+    ∙ by_ring
+    (add (add (mul (add (var 0) (mul (var 1) (var 2))) (var 5)) (mul (add (var 0) (mul (var 1) (var 3))) (var 6)))
+    (mul (add (var 0) (mul (var 1) (var 4))) (var 7)))
+    (add (mul (var 0) (add (add (var 5) (var 6)) (var 7)))
+    (mul (var 1) (add (add (mul (var 2) (var 5)) (mul (var 3) (var 6))) (mul (var 4) (var 7)))))
+    (k ∷ m ∷ d ∷ e ∷ f ∷ i ∷ j ∷ l ∷ []) refl
+
+module _ (at : ℕ → Point) (z w : ℕ → ℤ) (n k m : ℤ) (far : pos 1 ≤ℤ n)
+    (unit : (i : ℕ) → n *ℤ w i ≡ k +ℤ m *ℤ z i) where
+  abbrev old : Triple ℕ → Tri
+  old = tri_by at z
+
+  abbrev new : Triple ℕ → Tri
+  new = tri_by at w
+
+  lift_new : (t : Triple ℕ) (s x y : ℤ)
+      → n *ℤ lift_of (new t) s x y ≡ k *ℤ (s *ℤ doubled_area (old t)) +ℤ m *ℤ lift_of (old t) s x y
+  lift_new t s x y =
+      mixed n k m (w t.a) (w t.b) (w t.c) (z t.a) (z t.b) (z t.c) (side_of (old t).b (old t).c s x y)
+      (side_of (old t).c (old t).a s x y) (side_of (old t).a (old t).b s x y) (unit t.a) (unit t.b) (unit t.c)
+      ∙ ap (λ v. k *ℤ v +ℤ m *ℤ lift_of (old t) s x y) (sides_sum (old t) s x y)
+
+  part : (l s d e i : ℤ) → n *ℤ l ≡ k *ℤ (s *ℤ d) +ℤ m *ℤ i
+      → n *ℤ (l *ℤ e) ≡ k *ℤ (s *ℤ (d *ℤ e)) +ℤ m *ℤ (i *ℤ e)
+  part l s d e i h =
+      by_ring (mul (var 0) (mul (var 1) (var 2))) (mul (mul (var 0) (var 1)) (var 2)) (n ∷ l ∷ e ∷ []) refl
+      ∙ ap (λ v. v *ℤ e) h
+      ∙ by_ring
+      (mul (add (mul (var 0) (mul (var 1) (var 2))) (mul (var 3) (var 4))) (var 5))
+      (add (mul (var 0) (mul (var 1) (mul (var 2) (var 5)))) (mul (var 3) (mul (var 4) (var 5))))
+      (k ∷ s ∷ d ∷ m ∷ i ∷ e ∷ []) refl
+
+  turned_round : (s d e : ℤ) → k *ℤ (s *ℤ (d *ℤ e)) ≡ k *ℤ (s *ℤ (e *ℤ d))
+  turned_round s d e =
+      by_ring (mul (var 0) (mul (var 1) (mul (var 2) (var 3)))) (mul (var 0) (mul (var 1) (mul (var 3) (var 2))))
+      (k ∷ s ∷ d ∷ e ∷ []) refl
+
+  same_new : (t u : Triple ℕ) (s x y : ℤ) → SameHeight s x y (old t) (old u) → SameHeight s x y (new t) (new u)
+  same_new t u s x y h =
+      let d = doubled_area (old t) in let e = doubled_area (old u) in
+      let a = part (lift_of (new t) s x y) s d e (lift_of (old t) s x y) (lift_new t s x y) in
+      let b = part (lift_of (new u) s x y) s e d (lift_of (old u) s x y) (lift_new u s x y) in
+      cancelled n (lift_of (new t) s x y *ℤ e) (lift_of (new u) s x y *ℤ d) (omega (arith, ints, far))
+      (omega (arith, ints, a, b, turned_round s d e, ap (λ v. m *ℤ v) h))
+
+  ccw_new : (ts : List (Triple ℕ)) → AllByRecursion IsCounterClockwise (map old ts)
+      → AllByRecursion IsCounterClockwise (map new ts)
+  ccw_new [] h = tt
+  ccw_new (t ∷ ts) h = (h.0, ccw_new ts h.1)
+
+  module _ (s x y : ℤ) where
+    held_same : (t : Triple ℕ) → Holds s x y (old t) → Holds s x y (new t)
+    held_same t h = record { ab = h.ab; bc = h.bc; ca = h.ca }
+
+    held_back : (t : Triple ℕ) → Holds s x y (new t) → Holds s x y (old t)
+    held_back t h = record { ab = h.ab; bc = h.bc; ca = h.ca }
+
+    strictly_back : (t : Triple ℕ) → HoldsStrictly s x y (new t) → HoldsStrictly s x y (old t)
+    strictly_back t h = record { ab = h.ab; bc = h.bc; ca = h.ca }
+
+    held_new : (ts : List (Triple ℕ)) → Any (Holds s x y) (map old ts) → Any (Holds s x y) (map new ts)
+    held_new [] a = absurd (any_none (Holds s x y) a)
+    held_new (t ∷ ts) a = go (any_cases (Holds s x y) (old t) (map old ts) a) (held_new ts)
+      where
+        go : Holds s x y (old t) ⊎ Any (Holds s x y) (map old ts)
+            → (Any (Holds s x y) (map old ts) → Any (Holds s x y) (map new ts))
+            → Any (Holds s x y) (map new (t ∷ ts))
+        go (inl i) f = any_here (Holds s x y) (new t) (map new ts) (held_same t i)
+        go (inr i) f = any_there (Holds s x y) (new t) (map new ts) (f i)
+
+    abbrev Apart : Tri → Tri → Type 0
+    Apart t u = ¬ (HoldsStrictly s x y t × HoldsStrictly s x y u)
+
+    abbrev Same : Tri → Tri → Type 0
+    Same t u = Holds s x y t → Holds s x y u → SameHeight s x y t u
+
+    apart_each : (t : Triple ℕ) (ts : List (Triple ℕ)) → AllByRecursion (Apart (old t)) (map old ts)
+        → AllByRecursion (Apart (new t)) (map new ts)
+    apart_each t [] h = tt
+    apart_each t (u ∷ us) h = ((λ p. h.0 (strictly_back t p.0, strictly_back u p.1)), apart_each t us h.1)
+
+    same_each : (t : Triple ℕ) (ts : List (Triple ℕ)) → AllByRecursion (Same (old t)) (map old ts)
+        → AllByRecursion (Same (new t)) (map new ts)
+    same_each t [] h = tt
+    same_each t (u ∷ us) h =
+        ((λ i j. same_new t u s x y (h.0 (held_back t i) (held_back u j))), same_each t us h.1)
+
+    once_new : (ts : List (Triple ℕ)) → HeldOnce s x y (map old ts) → HeldOnce s x y (map new ts)
+    once_new [] h = pairs_none Apart
+    once_new (t ∷ ts) h =
+        pairs_cons Apart (new t) (map new ts)
+        (all_from (Apart (new t)) (map new ts)
+        (apart_each t ts (all_to (Apart (old t)) (map old ts) (pairs_head Apart (old t) (map old ts) h))))
+        (once_new ts (pairs_tail Apart (old t) (map old ts) h))
+
+    level_new : (ts : List (Triple ℕ)) → OneHeight s x y (map old ts) → OneHeight s x y (map new ts)
+    level_new [] h = pairs_none Same
+    level_new (t ∷ ts) h =
+        pairs_cons Same (new t) (map new ts)
+        (all_from (Same (new t)) (map new ts)
+        (same_each t ts (all_to (Same (old t)) (map old ts) (pairs_head Same (old t) (map old ts) h))))
+        (level_new ts (pairs_tail Same (old t) (map old ts) h))
+
+pub rescale_law : RescaleLaw
+rescale_law at z w n k m ts far unit c = record {
+  counter_clockwise = all_from IsCounterClockwise (map (tri_by at w) ts)
+      (ccw_new at z w n k m far unit ts (all_to IsCounterClockwise (map (tri_by at z) ts) c.counter_clockwise));
+  full = λ s x y h p. held_new at z w n k m far unit s x y ts (c.full s x y h p);
+  once = λ s x y h. once_new at z w n k m far unit s x y ts (c.once s x y h);
+  one_height = λ s x y h. level_new at z w n k m far unit s x y ts (c.one_height s x y h);
+}
