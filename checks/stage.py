@@ -1,0 +1,45 @@
+"""A folder in which a program is run, and what came of it."""
+
+import hashlib
+import pathlib
+import subprocess
+
+ROOT = pathlib.Path(__file__).resolve().parent.parent
+PROGRAM = ROOT / "crates/terrain_tool/out/terrain_tool"
+
+
+class Stage:
+    """Runs a program's words over the database `db` of a folder, and keeps what it said and left."""
+
+    def __init__(self, program, folder):
+        self.program = [str(word) for word in program]
+        self.folder = pathlib.Path(folder)
+        self.database = self.folder / "db"
+        self.database.mkdir(exist_ok=True)
+        self.said = []
+
+    def write(self, name, content):
+        path = self.folder / name
+        path.parent.mkdir(parents=True, exist_ok=True)
+        path.write_bytes(content)
+
+    def remove(self, name):
+        (self.folder / name).unlink()
+
+    def run(self, *words):
+        """One command: its words, its status and what it printed are kept."""
+        done = subprocess.run([*self.program, "db", *words], cwd=self.folder, stdout=subprocess.PIPE, timeout=110, check=False)
+        self.said.append([" ".join(words), done.returncode, done.stdout.decode("utf-8", "replace")])
+        return done
+
+    def files(self):
+        """The files of the database: names, lengths and SHA-256, in the order of names."""
+        paths = sorted(path for path in self.database.rglob("*") if path.is_file())
+        return [[str(path.relative_to(self.database)), path.stat().st_size, hashlib.sha256(path.read_bytes()).hexdigest()]
+                for path in paths]
+
+    def keep(self, title):
+        """Keeps one hash of all files there are now."""
+        files = self.files()
+        text = "".join(f"{name} {length} {digest}\n" for name, length, digest in files)
+        self.said.append([title, len(files), hashlib.sha256(text.encode()).hexdigest()])

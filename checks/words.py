@@ -1,0 +1,89 @@
+#!/usr/bin/env python3
+"""Statuses and texts of the built program where files, words and outputs are not as they should be.
+
+usage: checks/words.py
+"""
+
+import os
+import pathlib
+import subprocess
+import sys
+import tempfile
+
+import cells
+import stage
+
+USAGE = b"usage: terrain DIR init CAP FILL | add FILE"
+
+
+def said(folder, *words, **named):
+    done = subprocess.run([str(stage.PROGRAM), *words], cwd=folder, stdout=subprocess.PIPE, stderr=subprocess.PIPE, check=False, **named)
+    return done.returncode, done.stdout, done.stderr
+
+
+def usage_lines(folder):
+    """Words that are no command print the usage line."""
+    for words in ([], ["db"], ["db", "init", "15", "0"], ["db", "init", "9", "-0"], ["db", "init", "09", "0"], ["db", "add"], ["db", "add", ""],
+                  ["db", "remove", "n0e0", "0"], ["db", "remove", "n00e000", "3"], ["db", "inspect", "0", "2", "0"], ["db", "trial", "65", "1"],
+                  ["db", "list", "x"], [b"db", b"cell", b"\xff"]):
+        status, out, err = said(folder, *words)
+        yield f"words {words}", status == 2 and out.startswith(USAGE) and out.endswith(b"\n") and err == b""
+
+
+def cell_files(folder):
+    """Absent files, folders and long files of `cell`."""
+    (folder / "good.dt0").write_bytes(cells.flat(0, "n00e000"))
+    (folder / "long.dt0").write_bytes(b"")
+    os.truncate(folder / "long.dt0", 33_554_433)
+    (folder / "most.dt0").write_bytes(b"")
+    os.truncate(folder / "most.dt0", 33_554_432)
+    rows = (
+        ("good.dt0", 0, b"n00e000 level 0 columns 121 rows 121 min 0 max 0 voids 0\n"),
+        ("absent.dt0", 1, b"refused F1 absent absent.dt0\n"),
+        ("good.dt0/below", 1, b"refused F1 absent good.dt0/below\n"),
+        ("long.dt0", 1, b"refused F2 too long long.dt0 limit 33554432\n"),
+        ("most.dt0", 1, b"refused C2 no UHL\n"),
+        (".", 3, b""),
+    )
+    for name, status, text in rows:
+        yield f"cell {name}", said(folder, ".", "cell", name) == (status, text, b"")
+    os.truncate(folder / "long.dt0", 16_777_217)
+    yield "audit of a long file", said(folder, ".", "audit", "long.dt0") == (1, b"refused F2 too long long.dt0 limit 16777216\n", b"")
+
+
+def output_faults(folder):
+    """An output that takes nothing leaves what was done."""
+    (folder / "flat.dt0").write_bytes(cells.flat(0, "n00e000"))
+    with open("/dev/full", "wb") as full:
+        for words, listing in ((["init", "9", "0"], b"cap 9 fill 0 cells 0\n"), (["add", "flat.dt0"], b"cap 9 fill 0 cells 1\n")):
+            done = subprocess.run([str(stage.PROGRAM), "full", *words], cwd=folder, stdout=full, stderr=subprocess.PIPE, check=False)
+            yield f"{words[0]} to a full output", done.returncode == 5
+            yield f"{words[0]} is done", said(folder, "full", "list")[1].startswith(listing)
+
+
+def store_faults(folder):
+    """A folder or a long file under a file's name is a fault of the store, and a folder that is not there is an empty store."""
+    yield "list of no folder", said(folder, "nowhere", "list") == (1, b"refused K5 not a database line 0\n", b"")
+    (folder / "odd/manifest.txt").mkdir(parents=True)
+    yield "a folder under the manifest's name", said(folder, "odd", "list")[0] == 4
+    (folder / "much").mkdir()
+    (folder / "much/manifest.txt").write_bytes(b"")
+    os.truncate(folder / "much/manifest.txt", 134_217_729)
+    yield "a manifest past the limit", said(folder, "much", "list")[0] == 4
+    (folder / "plain").write_bytes(b"x")
+    yield "a plain file in the folder's place", said(folder, "plain", "init", "0", "0")[0] == 4
+
+
+def main():
+    failed = 0
+    for check in (usage_lines, cell_files, output_faults, store_faults):
+        with tempfile.TemporaryDirectory() as folder:
+            rows = list(check(pathlib.Path(folder)))
+        wrong = [title for title, holds in rows if not holds]
+        failed += len(wrong)
+        print(f"{check.__name__}: {len(rows)} tried, {len(wrong)} wrong" + "".join(f"\n  {title}" for title in wrong))
+    return 1 if failed else 0
+
+
+if __name__ == "__main__":
+    sys.exit(main())
