@@ -25,8 +25,12 @@ rank_exact Two One e = absurd (cc)
 pub same_key : (a b : CellKey) → a.square ≡ b.square → a.level ≡ b.level → a ≡ b
 same_key a b p q = λ i. record { square = p i; level = q i }
 
+-- so are keys of the same degrees and the same place among levels
+pub same_parts : (a b : CellKey) → a.square.lat ≡ b.square.lat → a.square.lon ≡ b.square.lon → rank_of a.level ≡ rank_of b.level → a ≡ b
+same_parts a b p q r = same_key a b (same_square a.square b.square p q) (rank_exact a.level b.level r)
+
 pub keys_exact : IsAntisymmetric key_cmp
 keys_exact a b e =
     let p = exact_pairs (λ (x y : ℕ × ℕ). ordering_then (nat_cmp x.0 y.0) (nat_cmp x.1 y.1)) nat_cmp (exact_pairs nat_cmp nat_cmp exact_unsigned exact_unsigned) exact_unsigned
-        ((a.square.lat, a.square.lon), rank_of a.level) ((b.square.lat, b.square.lon), rank_of b.level) e in
+    ((a.square.lat, a.square.lon), rank_of a.level) ((b.square.lat, b.square.lon), rank_of b.level) e in
     same_key a b (same_square a.square b.square (ap (λ p. p.0.0) p) (ap (λ p. p.0.1) p)) (rank_exact a.level b.level (ap (λ p. p.1) p))

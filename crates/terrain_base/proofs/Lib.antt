@@ -1,5 +1,7 @@
 pub mod Books
+pub mod Causes
 pub mod KeyOrder
+pub mod KeyTexts
 pub mod NameOrder
 pub mod NameTexts
 pub mod Overwrites

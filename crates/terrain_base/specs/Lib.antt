@@ -3,12 +3,14 @@ pub mod Cause
 pub mod CellKey
 pub mod Division
 pub mod Fail
+pub mod FirstUse
 pub mod Grid
 pub mod Height
 pub mod Level
 pub mod Library
 pub mod MemLibrary
 pub mod MemSink
+pub mod MemStore
 pub mod Name
 pub mod NameLaws
 pub mod NameParts

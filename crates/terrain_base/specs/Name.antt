@@ -1,5 +1,5 @@
 -- The text of each name, and the order of names by their texts.
-use Rattle.std.specs.Prelude.{ℕ, List, ◌++◌, codes, decimal}
+use Rattle.std.specs.Prelude.{ℕ, List, [], ◌∷◌, ◌++◌, codes, decimal}
 use Rattle.std.specs.declared.cmp.Ordering.{Ordering}
 use Rattle.std.specs.Ordering.{nat_cmp, on}
 use Rattle.std.specs.Cmp.Lexicographic.{slice_cmp}
@@ -8,7 +8,7 @@ use Rattle.terrain_base.specs.declared.cell_key.CellKey.{CellKey}
 use Rattle.terrain_base.specs.declared.name.Key.{Key}
 use Rattle.terrain_base.specs.declared.name.Key.TheVariants.{Manifest, Layer, Stage, Cell, OldCell, Terrain, Note}
 use Rattle.terrain_base.specs.Level.{level_number}
-use Rattle.terrain_base.specs.SquareText.{square_text}
+use Rattle.terrain_base.specs.SquareText.{digit_of, square_text}
 
 -- level, column and row in decimal (the TileJSON template `{z}/{x}/{y}`)
 abbrev pub tile_text : TileId → List ℕ
@@ -17,6 +17,10 @@ tile_text tile = decimal tile.z ++ (codes "/" ++ (decimal tile.x ++ (codes "/" +
 -- the square's text and the number of the level, with something between them
 abbrev pub key_text : List ℕ → CellKey → List ℕ
 key_text between key = square_text key.square ++ (between ++ decimal (level_number key.level))
+
+-- a key in a row of a text: the square's text, a blank and the digit of the level
+abbrev pub row_text : CellKey → List ℕ
+row_text key = square_text key.square ++ (32 ∷ digit_of (level_number key.level) ∷ [])
 
 abbrev pub text_of : Key → List ℕ
 text_of Manifest = codes "manifest.txt"

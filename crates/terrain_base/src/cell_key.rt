@@ -1,9 +1,9 @@
 // The key of a cell. It stands alone here: what its name is stands in `name`.
-ghost use Rattle.std.specs.Prelude.{◌≡◌};
+ghost use Rattle.std.specs.Prelude.{◌≡◌, IsTrue};
 ghost use Rattle.std.proofs.Common.{rules};
 ghost use Rattle.std.specs.Cmp.{partial_order_from_own_ties};
 ghost use Rattle.std.specs.Cmp.Rules.{comparing};
-ghost use Rattle.std.specs.Ordering.{eq_by_cmp, as_partial_cmp};
+ghost use Rattle.std.specs.Ordering.{eq_by_cmp, as_partial_cmp, is_lt};
 ghost use Rattle.terrain_base.specs.CellKey.{key_cmp, rank_of, keys_total};
 
 use crate::{CellLevel, Square};
@@ -25,6 +25,29 @@ fn rank(level: CellLevel) -> u8
         CellLevel::Two => 0,
         CellLevel::One => 1,
         CellLevel::Zero => 2,
+    }
+}
+
+impl CellKey {
+    /// Whether it comes before another key.
+    pub fn precedes(&self, next: &CellKey) -> bool
+        ensures { result ≡ is_lt (key_cmp self.now next.now) }
+    {
+        self.cmp(next).is_lt()
+    }
+
+    /// Whether it is this key.
+    pub fn is(&self, other: &CellKey) -> bool
+        ensures yes { IsTrue result → self.now ≡ other.now }
+        ensures no { self.now ≡ other.now → IsTrue result }
+    {
+        if self.square.lat != other.square.lat || self.square.lon != other.square.lon {
+            return false;
+        }
+        if rank(self.level) != rank(other.level) {
+            return false;
+        }
+        true
     }
 }
 
@@ -62,6 +85,8 @@ impl Ord for CellKey {
     ghost matches_eq = { Prim.search (comparing, rules) };
 
     fn cmp(&self, other: &CellKey) -> Ordering {
-        self.square.cmp(&other.square).then(rank(self.level).cmp(&rank(other.level)))
+        self.square
+            .cmp(&other.square)
+            .then(rank(self.level).cmp(&rank(other.level)))
     }
 }

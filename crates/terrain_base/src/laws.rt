@@ -7,7 +7,7 @@ ghost use Rattle.terrain_base.specs.declared.cell_key.CellKey.{CellKey};
 ghost use Rattle.terrain_base.specs.CellKey.{key_cmp};
 ghost use Rattle.terrain_base.specs.SquareOrder.{square_cmp};
 ghost use Rattle.terrain_base.specs.TileOrder.{tile_cmp};
-ghost use Rattle.terrain_base.specs.NameLaws.{KeysDiffer, SquaresDiffer, NamesDiffer};
+ghost use Rattle.terrain_base.specs.NameLaws.{KeysDiffer, RowsAreSpelt, SquaresDiffer, NamesDiffer};
 ghost use Rattle.terrain_base.specs.StoreLaws.{PutsOne, DeletesOne, AbsentStays, NamesAscend};
 ghost use Rattle.terrain_base.specs.StoreLaws.{StepsAreLogged, Overwrites, StopsLeaveOthers, StopsLogAFront};
 
@@ -34,6 +34,11 @@ pub fn tiles_ascend()
 /// Different squares have different texts.
 pub fn squares_differ()
     ensures { SquaresDiffer }
+{}
+
+/// A key's text in a row is its square's text, a blank and its level's number in decimal.
+pub fn rows_are_spelt()
+    ensures { RowsAreSpelt }
 {}
 
 /// Different names have different texts.

@@ -1,8 +1,8 @@
 // A sink in memory that fails at the calls of a list.
-ghost use Rattle.std.specs.Prelude.{◌≡◌, Some, [], IfOk, IfSome};
+ghost use Rattle.std.specs.Prelude.{◌≡◌, ◌++◌, Some, [], IfOk, option_map};
 ghost use Rattle.terrain_base.specs.Cause.{HasCause};
-ghost use Rattle.terrain_base.specs.Fail.{fail_at, failed_of, call_after};
-ghost use Rattle.terrain_base.specs.MemSink.{sink_fails, sink_calls, FailsAs};
+ghost use Rattle.terrain_base.specs.Fail.{FailsAs, fail_at, failed_of, call_after};
+ghost use Rattle.terrain_base.specs.MemSink.{sink_fails, sink_calls};
 ghost use Rattle.terrain_base.specs.Sink.{Takes};
 
 use crate::fail::count_call;
@@ -52,7 +52,7 @@ impl Sink for MemSink {
         ensures takes { Takes bytes.now (⟦<MemSink as Sink>⟧.taken self.old) (⟦<MemSink as Sink>⟧.taken self.new) result }
         ensures cause { HasCause (⟦<MemSink as Sink>⟧.faults self.old) (⟦<MemSink as Sink>⟧.faults self.new) result }
         // It fails exactly at the calls of the list, and then takes all or nothing.
-        ensures failing { FailsAs (fail_at (sink_fails self.old) (sink_calls self.old)) bytes.now (⟦<MemSink as Sink>⟧.taken self.old) (⟦<MemSink as Sink>⟧.taken self.new) result }
+        ensures failing { FailsAs (fail_at (sink_fails self.old) (sink_calls self.old)) (option_map (λ taken. taken ++ bytes.now) (⟦<MemSink as Sink>⟧.taken self.old)) (⟦<MemSink as Sink>⟧.taken self.old) (⟦<MemSink as Sink>⟧.taken self.new) result }
         ensures fails { sink_fails self.new ≡ sink_fails self.old }
         ensures calls { sink_calls self.new ≡ call_after (sink_calls self.old) }
     {

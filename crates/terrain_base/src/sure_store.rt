@@ -1,9 +1,9 @@
 // A store in memory that never fails.
-ghost use Rattle.std.specs.Prelude.{◌≡◌, Some, []};
+ghost use Rattle.std.specs.Prelude.{◌≡◌, ◌∷◌, ◌++◌, Some, [], OnOk, OnErr, option_map};
 ghost use Rattle.std.specs.FinMap as map;
 ghost use Rattle.terrain_base.specs.SureStore.{files_of};
 
-use crate::{Change, DeviceFault, Name, Store};
+use crate::{Change, DeviceFault, Name, NoMemory, Store};
 use std::alloc::Global;
 use std::collections::BTreeMap;
 
@@ -35,6 +35,16 @@ impl SureStore {
         ensures { ⟦<SureStore as Store>⟧.log self.now ≡ Some result.now }
     {
         &self.log
+    }
+
+    // Adds a change to the log and does not do it.
+    pub(crate) fn note(&mut self, change: Change) -> Result<(), NoMemory>
+        ensures same { ⟦<SureStore as Store>⟧.holds self.new ≡ ⟦<SureStore as Store>⟧.holds self.old }
+        ensures ok { OnOk result (⟦<SureStore as Store>⟧.log self.new ≡ option_map (λ log. log ++ change ∷ []) (⟦<SureStore as Store>⟧.log self.old)) }
+        ensures err { OnErr result (⟦<SureStore as Store>⟧.log self.new ≡ ⟦<SureStore as Store>⟧.log self.old) }
+    {
+        self.log.push(change)?;
+        Ok(())
     }
 }
 

@@ -101,3 +101,59 @@ fn names_are_told_in_the_order_of_their_bytes(rt: HostRuntime) {
         assert_eq!(rt; name.bytes(), text.as_bytes());
     }
 }
+
+#[test]
+fn a_store_fails_at_the_calls_of_its_list(rt: HostRuntime) {
+    let fails = [
+        (1, false),
+        (2, true),
+        (4, false),
+        (6, false),
+        (8, false),
+        (9, true),
+    ]
+    .map(|(call, applied)| Fail { call, applied });
+    let mut store = MemStore::new(rt.alloc(), &fails).expect(&rt, "memory");
+    assert!(rt; store.put(&Name::stage(), b"old").is_ok());
+    assert!(rt; store.put(&Name::stage(), b"new") == Err(DeviceFault::Failed));
+    assert!(rt; store.put(&Name::layer(), b"layer") == Err(DeviceFault::Failed));
+    let staged = store.get(&Name::stage()).expect(&rt, "no fault");
+    assert!(rt; matches!(&staged, Some(bytes) if bytes.as_slice() == b"old".as_slice()));
+    assert!(rt; store.get(&Name::stage()).is_err());
+    let layer = store.get(&Name::layer()).expect(&rt, "no fault");
+    assert!(rt; matches!(&layer, Some(bytes) if bytes.as_slice() == b"layer".as_slice()));
+    assert!(rt; store.names().is_err());
+    let names = store.names().expect(&rt, "no fault");
+    assert!(rt; names.as_slice() == [Name::layer(), Name::stage()].as_slice());
+    assert!(rt; store.delete(&Name::stage()) == Err(DeviceFault::Failed));
+    assert!(rt; store.delete(&Name::layer()) == Err(DeviceFault::Failed));
+    let names = store.names().expect(&rt, "no fault");
+    assert!(rt; names.as_slice() == [Name::stage()].as_slice());
+    assert!(rt; store.delete(&Name::stage()).is_ok());
+    let log = [
+        Change::Put(Name::stage()),
+        Change::Put(Name::stage()),
+        Change::Put(Name::layer()),
+        Change::Delete(Name::stage()),
+        Change::Delete(Name::layer()),
+        Change::Delete(Name::stage()),
+    ];
+    assert!(rt; store.log() == log.as_slice());
+}
+
+#[test]
+fn keys_in_rows_are_read_back(rt: HostRuntime) {
+    for (text, square, level) in [
+        ("n47e008 2", (188, 137), CellLevel::Two),
+        ("s01w180 0", (0, 89), CellLevel::Zero),
+        ("s90e179 1", (359, 0), CellLevel::One),
+    ] {
+        let square = Square::of(square.0, square.1).expect(&rt, "a square");
+        let key = CellKey { square, level };
+        assert_eq!(rt; key.text().as_slice(), text.as_bytes());
+        assert!(rt; CellKey::read(text.as_bytes()) == Some(key), "{text}");
+    }
+    for text in ["n47e008", "n47e008 3", "n47e008.2", "n47e008 02", "n47e8 2"] {
+        assert!(rt; CellKey::read(text.as_bytes()).is_none(), "{text}");
+    }
+}
