@@ -1,2 +1,3 @@
 pub mod Significands
 pub mod Formats
+pub mod Patterns

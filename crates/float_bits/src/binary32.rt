@@ -1,5 +1,6 @@
+//! Patterns of binary32.
 ghost use Rattle.std.specs.Prelude.{◌≡◌, ℕ, ℤ, ◌^◌, ◌<◌, IfSome, IfNone, unsigned_abs};
-ghost use Rattle.float_bits.specs.Binary32.{IsBits32, IsNormal32, sign32};
+ghost use Rattle.float_bits.specs.Binary32.{IsBits32, IsNormal32, bits32_of, sign32};
 
 use crate::significand::{places_to_52, whole_number};
 
@@ -21,7 +22,8 @@ fn normal32(sign: u32, size: u32) -> u32
 /// The pattern of 0 is 0, so no number has the pattern of negative zero (IEEE 754-2019, 3.4).
 pub fn bits32(n: i32) -> u32
     requires { unsigned_abs n < 2 ^ 24 }
-    ensures { IsBits32 n result }
+    ensures pattern { IsBits32 n result }
+    ensures exact { result ≡ bits32_of n }
 {
     if n == 0 {
         0

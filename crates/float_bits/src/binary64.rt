@@ -1,5 +1,6 @@
+//! Patterns of binary64.
 ghost use Rattle.std.specs.Prelude.{◌≡◌, ℕ, ℤ, ◌^◌, ◌<◌, ◌≤◌, IfSome, IfNone, unsigned_abs};
-ghost use Rattle.float_bits.specs.Binary64.{IsBits64, IsNormal64, sign64};
+ghost use Rattle.float_bits.specs.Binary64.{IsBits64, IsNormal64, bits64_of, sign64};
 
 use crate::significand::{places_to_52, whole_number};
 
@@ -23,7 +24,8 @@ fn normal64(sign: u64, size: u64, shift: u8) -> u64
 pub fn bits64(n: i64, shift: u8) -> u64
     requires size { unsigned_abs n < 2 ^ 53 }
     requires shift { shift ≤ 63 }
-    ensures { IsBits64 n shift result }
+    ensures pattern { IsBits64 n shift result }
+    ensures exact { result ≡ bits64_of n shift }
 {
     if n == 0 {
         0

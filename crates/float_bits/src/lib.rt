@@ -3,9 +3,8 @@
 
 mod binary32;
 mod binary64;
-mod law;
+pub mod laws;
 mod significand;
 
 pub use binary32::{bits32, lattice32};
 pub use binary64::{bits64, lattice64};
-pub use law::{one_number, one_pattern};

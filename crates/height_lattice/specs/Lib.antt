@@ -1,2 +1,3 @@
 pub mod HeightCode
 pub mod HeightFrame
+pub mod Laws

@@ -1,6 +1,7 @@
+//! Height codes in a frame.
 ghost use Rattle.std.specs.Prelude.{◌≡◌, ℤ, pos, ◌-ℤ◌, ◌*ℤ◌, ◌≤◌, IfSome, IfNone};
 ghost use Rattle.std.specs.Int.{◌∣◌};
-ghost use Rattle.height_lattice.specs.HeightCode.{IsCode, codes_per_metre};
+ghost use Rattle.height_lattice.specs.HeightCode.{IsCode, code_of, codes_per_metre};
 ghost use Rattle.height_lattice.specs.HeightFrame.{IsWithin};
 
 use crate::height_frame::HeightFrame;
@@ -25,6 +26,7 @@ pub fn code(frame: &HeightFrame, metres: i16) -> u16
     ensures place { IsCode frame.now metres result }
     ensures product { pos result ≡ (metres -ℤ frame.now.base) *ℤ pos (codes_per_metre frame.now) }
     ensures bound { result ≤ 32767 }
+    ensures exact { result ≡ code_of frame.now metres }
 {
     metres_above_base(frame, metres) * (GREATEST_CODE / frame.range)
 }

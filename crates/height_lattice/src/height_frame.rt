@@ -1,6 +1,7 @@
+//! The frame of a tile's heights.
 ghost use Rattle.std.specs.Prelude.{◌≡◌, ℕ, ℤ, pos, neg_ℤ, ◌≤ℤ◌, ◌≤◌};
 ghost use Rattle.std.specs.Int.{◌∣◌};
-ghost use Rattle.height_lattice.specs.HeightFrame.{IsFrame};
+ghost use Rattle.height_lattice.specs.HeightFrame.{IsFrame, frame_of};
 
 /// The heights that a tile's height codes reach: from `base` to `base + range`, in metres.
 #[derive(Clone, Copy, Debug, PartialEq, Eq)]
@@ -37,7 +38,8 @@ pub fn frame(least: i16, greatest: i16) -> HeightFrame
     requires order { least ≤ℤ greatest }
     requires low { neg_ℤ (pos 16000) ≤ℤ least }
     requires high { greatest ≤ℤ pos 16000 }
-    ensures { IsFrame least greatest result }
+    ensures frame { IsFrame least greatest result }
+    ensures exact { result ≡ frame_of least greatest }
 {
     let range = least_divisor((greatest as i32 - least as i32) as u16);
     HeightFrame { base: least, range }

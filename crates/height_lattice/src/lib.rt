@@ -3,8 +3,7 @@
 
 mod height_code;
 mod height_frame;
-mod law;
+pub mod laws;
 
 pub use height_code::{code, metres};
 pub use height_frame::{HeightFrame, frame};
-pub use law::{one_code, one_frame, one_height};
