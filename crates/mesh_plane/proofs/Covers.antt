@@ -17,10 +17,8 @@ use Rattle.mesh_plane.proofs.Tilings.{Tiling, area, Within}
 use Rattle.mesh_plane.proofs.ListWords.{all_from, pairs_none, pairs_cons}
 use Rattle.mesh_plane.proofs.Scales.{corner_of, placed, scaled, area_scaled, holds_in, any_held, once_out, all_ccw}
 use Rattle.mesh_plane.proofs.Heights.{lift, Agree, Each, OneLevel, cancelled}
-
--- the square of a tile at the scale s
-abbrev pub tile_at : ℤ → Rect
-tile_at s = record { west = pos 0; south = pos 0; east = pos 32767 *ℤ s; north = pos 32767 *ℤ s }
+use Rattle.mesh_plane.proofs.OnTile.{all_on_tile}
+use Rattle.mesh_plane.proofs.TileSquare.{tile_at}
 
 module _ {A : Type 0} (at : A → Point) (z : A → ℤ) where
   lift_scaled : (s x y : ℤ) (t : Triple A)
@@ -85,6 +83,7 @@ module _ {A : Type 0} (at : A → Point) (z : A → ℤ) where
       → ((s : ℤ) → pos 1 ≤ℤ s → (p : Point) → OneLevel (scaled at z s) z p ts)
       → Covers (map (placed at z) ts)
   covers_at_each_scale ts tiles levels = record {
+    on_tile = all_on_tile at z ts (tiles (pos 1) (omega (arith, ints)));
     counter_clockwise = all_ccw at z ts (tiles (pos 1) (omega (arith, ints))).ccw;
     full = λ s x y h i. any_held at z s x y h ts
         ((tiles s h).full (point x y)

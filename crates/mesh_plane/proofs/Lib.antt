@@ -21,6 +21,8 @@ pub mod StripFrames
 pub mod FrameHeights
 pub mod FanHeights
 pub mod Quads
+pub mod TileSquare
+pub mod OnTile
 pub mod Covers
 pub mod QuadLines
 pub mod QuadHeights

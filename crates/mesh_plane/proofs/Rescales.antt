@@ -6,11 +6,11 @@ use Rattle.std.proofs.lemmas.Int.{ints}
 use Rattle.polynomial.proofs.Expressions.{Expr, var, add, mul}
 use Rattle.polynomial.proofs.NormalForm.{by_ring}
 use Rattle.mesh_plane.specs.declared.corner.Tri.{Tri}
-use Rattle.mesh_plane.specs.Plane.{Point, side_of, doubled_area, IsCounterClockwise, Holds, HoldsStrictly}
+use Rattle.mesh_plane.specs.Plane.{Point, side_of, doubled_area, IsCounterClockwise, Holds, HoldsStrictly, IsOnTile, IsTileTri}
 use Rattle.mesh_plane.specs.Surface.{lift_of, SameHeight}
 use Rattle.mesh_plane.specs.Cover.{Covers, HeldOnce, OneHeight}
 use Rattle.mesh_plane.specs.Triangles.{Triple}
-use Rattle.mesh_plane.specs.Rescale.{tri_by, RescaleLaw}
+use Rattle.mesh_plane.specs.Rescale.{vertex_by, tri_by, RescaleLaw}
 use Rattle.mesh_plane.proofs.Heights.{cancelled}
 use Rattle.mesh_plane.proofs.SurfaceLaws.{sides_sum}
 use Rattle.mesh_plane.proofs.ListWords.{all_from, all_to, any_here, any_there, any_none, any_cases, pairs_none, pairs_cons, pairs_head, pairs_tail}
@@ -31,6 +31,18 @@ mixed n k m a b c d e f i j l x y z =
     (mul (var 1) (add (add (mul (var 2) (var 5)) (mul (var 3) (var 6))) (mul (var 4) (var 7)))))
     (k ∷ m ∷ d ∷ e ∷ f ∷ i ∷ j ∷ l ∷ []) refl
 
+-- ---- the same places
+module _ (at : ℕ → Point) (z w : ℕ → ℤ) where
+  corner_new : (i : ℕ) → IsOnTile (vertex_by at z i) → IsOnTile (vertex_by at w i)
+  corner_new i h = record { west = h.west; east = h.east; south = h.south; north = h.north }
+
+  on_new : (ts : List (Triple ℕ)) → AllByRecursion IsTileTri (map (tri_by at z) ts)
+      → AllByRecursion IsTileTri (map (tri_by at w) ts)
+  on_new [] h = tt
+  on_new (t ∷ ts) h =
+      (record { a = corner_new t.a h.0.a; b = corner_new t.b h.0.b; c = corner_new t.c h.0.c }, on_new ts h.1)
+
+-- ---- heights in the other unit
 module _ (at : ℕ → Point) (z w : ℕ → ℤ) (n k m : ℤ) (far : pos 1 ≤ℤ n)
     (unit : (i : ℕ) → n *ℤ w i ≡ k +ℤ m *ℤ z i) where
   abbrev old : Triple ℕ → Tri
@@ -129,6 +141,7 @@ module _ (at : ℕ → Point) (z w : ℕ → ℤ) (n k m : ℤ) (far : pos 1 ≤
 
 pub rescale_law : RescaleLaw
 rescale_law at z w n k m ts far unit c = record {
+  on_tile = all_from IsTileTri (map (tri_by at w) ts) (on_new at z w ts (all_to IsTileTri (map (tri_by at z) ts) c.on_tile));
   counter_clockwise = all_from IsCounterClockwise (map (tri_by at w) ts)
       (ccw_new at z w n k m far unit ts (all_to IsCounterClockwise (map (tri_by at z) ts) c.counter_clockwise));
   full = λ s x y h p. held_new at z w n k m far unit s x y ts (c.full s x y h p);

@@ -1,7 +1,7 @@
 -- Triangles that cover the square of a tile exactly once.
 use Rattle.std.specs.Prelude.{ℤ, pos, ◌≤ℤ◌, List, All, Any, AllPairs}
 use Rattle.mesh_plane.specs.declared.corner.Tri.{Tri}
-use Rattle.mesh_plane.specs.Plane.{IsCounterClockwise, Holds, HoldsStrictly, IsTilePoint}
+use Rattle.mesh_plane.specs.Plane.{IsCounterClockwise, Holds, HoldsStrictly, IsTilePoint, IsTileTri}
 use Rattle.mesh_plane.specs.Surface.{SameHeight}
 
 -- no two triangles at different places of the list hold the point strictly
@@ -12,9 +12,10 @@ HeldOnce s x y ts = AllPairs (λ t u. ¬ (HoldsStrictly s x y t × HoldsStrictly
 abbrev pub OneHeight : ℤ → ℤ → ℤ → List Tri → Type 0
 OneHeight s x y ts = AllPairs (λ t u. Holds s x y t → Holds s x y u → SameHeight s x y t u) ts
 
--- the triangles cover the tile once, with one height at each of its points: at every whole scale from 1 on,
--- so at every rational point
+-- the triangles lie on the tile and cover it once, with one height at each of its points: at every whole scale
+-- from 1 on, so at every rational point
 pub record Covers (ts : List Tri) : Type 0 where
+  pub on_tile : All IsTileTri ts
   pub counter_clockwise : All IsCounterClockwise ts
   pub full : (s x y : ℤ) → pos 1 ≤ℤ s → IsTilePoint s x y → Any (Holds s x y) ts
   pub once : (s x y : ℤ) → pos 1 ≤ℤ s → HeldOnce s x y ts

@@ -83,8 +83,8 @@ pub fn within(tri: &Tri, scale: i64, u: i64, v: i64) -> bool
         && is_left(&tri.c, &tri.a, scale, u, v)
 }
 
-/// Twice the area of a triangle.
-pub(crate) fn doubled(tri: &Tri) -> i64
+/// Twice the area of a triangle: above 0 where its corners run counter-clockwise.
+pub fn doubled(tri: &Tri) -> i64
     requires { IsTileTri tri.now }
     ensures value { result ≡ doubled_area tri.now }
     ensures size { unsigned_abs result ≤ 2 ^ 62 }

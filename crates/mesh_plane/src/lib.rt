@@ -6,7 +6,7 @@ mod corner;
 mod gap;
 pub mod laws;
 
-pub use corner::{Corner, Tri, side, within};
+pub use corner::{Corner, Tri, doubled, side, within};
 pub use gap::{Gap, ceil_gap, height_gap, plane_height};
 
 #[cfg(test)]
