@@ -9,8 +9,7 @@ use Rattle.std.specs.Prelude.{◌⊎◌, ℤ, ◌≤ℤ◌, fold, unsigned_abs}
 use Rattle.std.specs.Int.{int_min, int_max}
 use Rattle.ecef_boxes.specs.declared.ecef_box.EcefBox.{EcefBox}
 use Rattle.ecef_boxes.specs.Bounds.{IsBoxWithin}
-use Rattle.bound_spheres.specs.Sphere.{IsLeast, IsGreatest}
-use Rattle.bound_spheres.specs.Hull.{IsHull, join_of}
+use Rattle.bound_spheres.specs.Hull.{IsLeast, IsGreatest, IsHull, join_of}
 
 same_box : (a b c d e f : ℤ) (box : EcefBox) → a ≡ box.x_lo → b ≡ box.x_hi → c ≡ box.y_lo → d ≡ box.y_hi
     → e ≡ box.z_lo → f ≡ box.z_hi

@@ -5,4 +5,5 @@ pub mod Hulls
 pub mod OneSphere
 pub mod Rising
 pub mod Scaling
+pub mod SphereOf
 pub mod Spheres

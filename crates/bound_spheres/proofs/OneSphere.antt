@@ -5,7 +5,8 @@ use Rattle.std.proofs.lemmas.List.Elements.{All-contains, All-weaker}
 use Rattle.std.specs.Prelude.{ℤ, ◌≤ℤ◌, ◌*ℤ◌}
 use Rattle.ecef_boxes.specs.declared.ecef_box.EcefBox.{EcefBox}
 use Rattle.bound_spheres.specs.declared.sphere.Sphere.{Sphere}
-use Rattle.bound_spheres.specs.Sphere.{IsLeast, IsGreatest, IsMiddle, IsReached, IsSphere, distance_squared}
+use Rattle.bound_spheres.specs.Hull.{IsLeast, IsGreatest}
+use Rattle.bound_spheres.specs.Sphere.{IsMiddle, IsReached, IsSphere, distance_squared}
 
 one_least : (read : EcefBox → ℤ) (boxes : List EcefBox) (m n : ℤ) → IsLeast read boxes m → IsLeast read boxes n → m ≡ n
 one_least read boxes m n p q =

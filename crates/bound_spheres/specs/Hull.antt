@@ -1,8 +1,21 @@
 -- What boxes span.
-use Rattle.std.specs.Prelude.{List}
+use Rattle.std.specs.Prelude.{◌≡◌, List, ℤ, ◌≤ℤ◌, All, Contains}
 use Rattle.std.specs.Int.{int_min, int_max}
 use Rattle.ecef_boxes.specs.declared.ecef_box.EcefBox.{EcefBox}
-use Rattle.bound_spheres.specs.Sphere.{IsLeast, IsGreatest}
+
+-- one of the boxes has n as the number that is read, and none has a lesser one
+pub record IsLeast (read : EcefBox → ℤ) (boxes : List EcefBox) (n : ℤ) : Type 0 where
+  pub box : EcefBox
+  pub among : Contains boxes box
+  pub reached : n ≡ read box
+  pub least : All (λ other. n ≤ℤ read other) boxes
+
+-- one of the boxes has n as the number that is read, and none has a greater one
+pub record IsGreatest (read : EcefBox → ℤ) (boxes : List EcefBox) (n : ℤ) : Type 0 where
+  pub box : EcefBox
+  pub among : Contains boxes box
+  pub reached : n ≡ read box
+  pub greatest : All (λ other. read other ≤ℤ n) boxes
 
 -- the least box that has both
 unfoldable pub join_of : EcefBox → EcefBox → EcefBox

@@ -1,25 +1,13 @@
 -- The bounding sphere of boxes (quantized-mesh-1.0, BoundingSphere in the header).
-use Rattle.std.specs.Prelude.{◌≡◌, ◌⊎◌, List, ℕ, ℤ, pos, ◌^◌, ◌≤◌, ◌+ℤ◌, ◌-ℤ◌, ◌*ℤ◌, ◌≤ℤ◌, All, Contains}
-use Rattle.std.specs.Prelude.{unsigned_abs}
-use Rattle.terrain_base.specs.Division.{floor_of}
+use Rattle.std.specs.Prelude.{◌≡◌, ◌⊎◌, List, [], ◌∷◌, ℕ, ℤ, pos, ◌+◌, ◌*◌, ◌^◌, ◌≤◌, ◌==◌, ◌+ℤ◌, ◌-ℤ◌, ◌*ℤ◌, ◌≤ℤ◌, All}
+use Rattle.std.specs.Prelude.{fold, unsigned_abs, if◌then◌else◌}
+use Rattle.terrain_base.specs.Division.{floor_of, root_of}
 use Rattle.ecef_boxes.specs.declared.ecef_box.EcefBox.{EcefBox}
 use Rattle.bound_spheres.specs.declared.sphere.Sphere.{Sphere}
+use Rattle.bound_spheres.specs.Hull.{IsLeast, IsGreatest, join_of}
+use Rattle.bound_spheres.specs.Reach.{farthest_of}
 
 -- ---- the centre
-
--- one of the boxes has n as the number that is read, and none has a lesser one
-pub record IsLeast (read : EcefBox → ℤ) (boxes : List EcefBox) (n : ℤ) : Type 0 where
-  pub box : EcefBox
-  pub among : Contains boxes box
-  pub reached : n ≡ read box
-  pub least : All (λ other. n ≤ℤ read other) boxes
-
--- one of the boxes has n as the number that is read, and none has a greater one
-pub record IsGreatest (read : EcefBox → ℤ) (boxes : List EcefBox) (n : ℤ) : Type 0 where
-  pub box : EcefBox
-  pub among : Contains boxes box
-  pub reached : n ≡ read box
-  pub greatest : All (λ other. read other ≤ℤ n) boxes
 
 -- n is the middle between the least low end and the greatest high end, rounded down
 pub record IsMiddle (low high : EcefBox → ℤ) (boxes : List EcefBox) (n : ℤ) : Type 0 where
@@ -62,3 +50,30 @@ pub record IsCentreWithin (k : ℕ) (sphere : Sphere) : Type 0 where
   pub x : unsigned_abs sphere.x ≤ 2 ^ k
   pub y : unsigned_abs sphere.y ≤ 2 ^ k
   pub z : unsigned_abs sphere.z ≤ 2 ^ k
+
+-- the centre's numbers are from -2^33 to 2^33, and the radius is at most 2^35
+pub record IsSmall (sphere : Sphere) : Type 0 where
+  pub centre : IsCentreWithin 33 sphere
+  pub radius : unsigned_abs sphere.radius ≤ 2 ^ 35
+
+-- ---- the sphere as a function
+
+-- the least whole number whose square is at least n
+unfoldable pub root_up_of : ℕ → ℕ
+root_up_of n = if root_of n * root_of n == n then root_of n else root_of n + 1
+
+abbrev pub middle_of : ℤ → ℤ → ℤ
+middle_of lo hi = floor_of (lo +ℤ hi) (pos 2)
+
+-- round the least box that has all boxes, with its middle
+abbrev pub sphere_in : EcefBox → List EcefBox → Sphere
+sphere_in hull boxes =
+    let x = middle_of hull.x_lo hull.x_hi in
+    let y = middle_of hull.y_lo hull.y_hi in
+    let z = middle_of hull.z_lo hull.z_hi in
+    record { x = x; y = y; z = z; radius = pos (root_up_of (farthest_of x y z boxes)) }
+
+-- the sphere of boxes, of which there is at least one; with none, all its numbers are 0
+unfoldable pub sphere_of : List EcefBox → Sphere
+sphere_of [] = record { x = pos 0; y = pos 0; z = pos 0; radius = pos 0 }
+sphere_of (box ∷ boxes) = sphere_in (fold join_of box (box ∷ boxes)) (box ∷ boxes)

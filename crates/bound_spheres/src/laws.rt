@@ -1,15 +1,20 @@
 //! Laws of spheres.
-ghost use Rattle.std.specs.Prelude.{◌≡◌, ℕ, ◌≤◌, List};
+ghost use Rattle.std.specs.Prelude.{ℕ, ◌≤◌, List};
 ghost use Rattle.ecef_boxes.specs.declared.ecef_box.EcefBox.{EcefBox};
 ghost use Rattle.bound_spheres.specs.declared.sphere.Sphere.{Sphere};
 ghost use Rattle.bound_spheres.specs.declared.scaled.Vector.{Vector};
 ghost use Rattle.bound_spheres.specs.Horizon.{Hides, IsHorizon, horizon_of};
-ghost use Rattle.bound_spheres.specs.Sphere.{IsSphere};
+ghost use Rattle.bound_spheres.specs.Laws.{OneSphereLaw, SphereLaw};
 
 /// The boxes fix their sphere.
-#[tactic(auto, using(crate::proofs::OneSphere::one_sphere))]
 pub fn one_sphere()
-    ensures { (boxes : List EcefBox) (a b : Sphere) → IsSphere boxes a → IsSphere boxes b → a ≡ b }
+    ensures { OneSphereLaw }
+{}
+
+/// Boxes, of which there is at least one, have a sphere. Where their numbers are within -2^31 to 2^31, those of its
+/// centre are within -2^33 to 2^33, and its radius is at most 2^35.
+pub fn sphere()
+    ensures { SphereLaw }
 {}
 
 /// A multiple that hides a corner is below others that hide it.

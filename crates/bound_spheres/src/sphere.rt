@@ -3,6 +3,7 @@ ghost use Rattle.std.specs.Prelude.{◌≡◌, ◌<◌, ◌≤◌, ◌^◌, ◌+
 ghost use Rattle.terrain_base.specs.Division.{floor_of};
 ghost use Rattle.ecef_boxes.specs.Bounds.{IsBoxWithin};
 ghost use Rattle.bound_spheres.specs.Sphere.{IsCentreWithin, IsSphere};
+ghost use Rattle.bound_spheres.specs.Sphere as of_boxes;
 
 use crate::distance::{farthest, root_up};
 use crate::extent::hull;
@@ -37,6 +38,7 @@ pub fn sphere_of(boxes: &[EcefBox]) -> Sphere
     ensures sphere { IsSphere boxes.now result }
     ensures centre { IsCentreWithin 33 result }
     ensures radius { result.radius ≤ℤ pos (2 ^ 35) }
+    ensures exact { result ≡ of_boxes.sphere_of boxes.now }
 {
     let hull = hull(boxes);
     let x = middle(hull.x_lo, hull.x_hi);

@@ -1,4 +1,5 @@
 pub mod Bounds
 pub mod Box
 pub mod Ellipsoid
+pub mod Laws
 pub mod Lines

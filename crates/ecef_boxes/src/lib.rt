@@ -4,6 +4,7 @@
 mod ecef_box;
 mod ellipsoid;
 mod frame;
+pub mod laws;
 mod line;
 
 pub use ecef_box::EcefBox;

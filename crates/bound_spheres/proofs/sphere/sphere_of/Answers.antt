@@ -3,6 +3,8 @@ use Rattle.std.proofs.lemmas.Int.{ints, to_z-of_z, to_z_pos}
 use Rattle.std.specs.Prelude.{pos, ◌≤ℤ◌}
 use mir.Syntax.{w64}
 use Rattle.bound_spheres.specs.Sphere.{IsCentreWithin}
+use Rattle.bound_spheres.proofs.OneSphere.{one_sphere}
+use Rattle.bound_spheres.proofs.SphereOf.{sphere_of_is}
 use Rattle.bound_spheres.proofs.Spheres.{sphere_is}
 use Rattle.bound_spheres.proofs.sphere.sphere_of.Goals as goal
 
@@ -37,4 +39,5 @@ returns c =
       sphere = rw radius (simp to_z-of_z sphere);
       centre = rw radius (simp to_z-of_z centre);
       radius = rw radius few;
+      exact = rw radius (simp to_z-of_z (one_sphere c.args.boxes.now _ _ sphere (sphere_of_is c.args.boxes.now c.requires.some)));
     }
