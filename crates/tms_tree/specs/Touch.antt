@@ -1,5 +1,5 @@
 -- A tile touches a square where they share a point, and overlaps it where their insides do.
-use Rattle.std.specs.Prelude.{ℕ, ◌+◌, ◌*◌, ◌^◌, ◌<◌, ◌==◌, Bool, ◌&&◌, ◌||◌, nat_lt, nat_le}
+use Rattle.std.specs.Prelude.{ℕ, ◌+◌, ◌*◌, ◌^◌, ◌<◌, ◌==◌, ◌↔◌, Bool, ◌&&◌, ◌||◌, nat_lt, nat_le, IsTrue}
 use Rattle.terrain_base.specs.declared.square.Square.{Square}
 use Rattle.terrain_base.specs.declared.tile.TileId.{TileId}
 use Rattle.tms_tree.specs.Degrees.{Point, Holds, HoldsInside, tile_rectangle, square_rectangle}
@@ -43,3 +43,13 @@ touches_of tile square = meets_at tile.z tile.y square.lat && round_meets_at til
 -- whether the tile overlaps the square
 unfoldable pub overlaps_of : TileId → Square → Bool
 overlaps_of tile square = crosses_at tile.z tile.y square.lat && crosses_at tile.z tile.x square.lon
+
+-- ---- what the tests are held to
+
+-- a tile touches a square, by the test, exactly where their closed rectangles share a point
+abbrev pub TouchIsShared : Type 0
+TouchIsShared = (tile : TileId) (square : Square) → IsTrue (touches_of tile square) ↔ Touches tile square
+
+-- and overlaps it exactly where their open rectangles do
+abbrev pub OverlapIsShared : Type 0
+OverlapIsShared = (tile : TileId) (square : Square) → IsTrue (overlaps_of tile square) ↔ Overlaps tile square

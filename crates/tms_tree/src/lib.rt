@@ -2,14 +2,13 @@
 #![tactic(auto)]
 
 mod grid_point;
-mod laws;
+pub mod laws;
 mod neighbour;
 mod place;
 mod touch;
 mod touched;
 
 pub use grid_point::tile_place;
-pub use laws::{grid_within_tile, shared_edges};
 pub use neighbour::{neighbour_east, neighbour_north};
 pub use place::Place;
 pub use touch::{overlaps, touches};
