@@ -4,6 +4,7 @@ pub mod Extremes
 pub mod First
 pub mod HeaderLaws
 pub mod Headers
+pub mod Heights
 pub mod WholeCells
 pub mod Leads
 pub mod Numbers

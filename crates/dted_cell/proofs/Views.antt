@@ -1,5 +1,5 @@
 -- What a view's fields are, by the bytes that it is seen as.
-use Rattle.std.proofs.Common.{◌≡◌, ℕ, ◌+◌, ◌-◌, ◌*◌, ◌<◌, ◌≤◌, List, length, drop, slice_index, slice_range, refl, sym, ◌∙◌, ap, arith, get_or-take, get_or-drop}
+use Rattle.std.proofs.Common.{◌≡◌, ℕ, ◌+◌, ◌-◌, ◌*◌, ◌<◌, ◌≤◌, List, None, length, drop, slice_index, slice_range, refl, sym, ◌∙◌, ap, arith, get_or-take, get_or-drop}
 use Rattle.std.proofs.Math.Nat.{mul-le-mul_right}
 use Rattle.dted_cell.specs.Field.{word_at}
 use Rattle.dted_cell.specs.Lead.{lead_of, text_of}
@@ -26,6 +26,9 @@ module _ (bytes value : List ℕ) (header : Header) (good : IsGood bytes header)
 
   pub view_lead : header.lead ≡ lead_of bytes
   view_lead = good.says.lead_is
+
+  pub view_accepted : refusal_of value ≡ None
+  view_accepted = sym (ap refusal_of same) ∙ good.accepted
 
   pub view_long : record_at (rows_in value) (columns_in value) ≤ length (text_of value)
   unfolding columns_in rows_in

@@ -3,6 +3,7 @@ use Rattle.std.specs.Prelude.{
   ◌≡◌,
   ℕ,
   ℤ,
+  ◌+◌,
   ◌*◌,
   ◌<◌,
   ◌≤◌,
@@ -33,7 +34,7 @@ use Rattle.terrain_base.specs.declared.post.Extremes.{Extremes}
 use Rattle.terrain_base.specs.Level.{rows_of, columns_of}
 use Rattle.dted_cell.specs.Field.{word_at}
 use Rattle.dted_cell.specs.Lead.{text_of}
-use Rattle.dted_cell.specs.Elevation.{post_of}
+use Rattle.dted_cell.specs.Elevation.{post_of, IsElevation}
 use Rattle.dted_cell.specs.Header.{square_at, level_at, IsHeader}
 use Rattle.dted_cell.specs.Record.{record_at, elevation_at, IsRecord}
 
@@ -86,6 +87,10 @@ profile_in bytes col =
 -- the post of a row in a column's elevations
 abbrev pub post_of_row : List ℕ → ℕ → Post
 post_of_row elevations row = post_of (word_at elevations (2 * row))
+
+-- the word of each row in a column's elevations is an elevation
+abbrev pub AreElevations : List ℕ → Type 0
+AreElevations elevations = (row : ℕ) → 2 * row + 2 ≤ length elevations → IsElevation (word_at elevations (2 * row))
 
 -- the posts of a column, from the south on
 abbrev pub column_in : List ℕ → ℕ → List Post

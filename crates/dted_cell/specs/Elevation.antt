@@ -16,6 +16,7 @@ use Rattle.std.specs.Prelude.{
   ◌&&◌,
   if◌then◌else◌,
 }
+use Rattle.terrain_base.specs.Height.{IsHeight}
 use Rattle.terrain_base.specs.declared.post.Post.{Post}
 use Rattle.terrain_base.specs.declared.post.Post.TheVariants.{Void, Metres}
 
@@ -35,6 +36,11 @@ post_of word = if is_void word then Void else Metres (signed_of word)
 abbrev pub IsElevation : ℕ → Type 0
 IsElevation word = (word ≡ 65535) ⊎ (word % 32768 ≤ 16000)
 
--- whether it is neither
+-- a post is void, or from -16000 to 16000 metres
+abbrev pub IsPost : Post → Type 0
+IsPost Void = Unit {0}
+IsPost (Metres metres) = IsHeight metres
+
+-- whether a word is no elevation
 abbrev pub is_out_of_range : ℕ → Bool
 is_out_of_range word = not (is_void word) && nat_lt 16000 (word % 32768)

@@ -6,5 +6,6 @@ pub mod Fields
 pub mod Refusal
 pub mod Record
 pub mod Cell
+pub mod CellLaws
 pub mod Good
 pub mod Trouble

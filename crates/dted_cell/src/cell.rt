@@ -11,7 +11,7 @@ use crate::header::{Header, read_header};
 use crate::lead::behind;
 use crate::record::{record_start, records_refusal};
 
-/// The refusal of what follows a header.
+// The refusal of what follows a header.
 #[tactic(auto, unfolding(crate::specs::Refusal::data_conditions))]
 fn data_refusal(bytes: &[u8], header: &Header) -> Option<CellRefusal>
     requires says { SaysHeader bytes.now header.now }
@@ -28,7 +28,7 @@ fn data_refusal(bytes: &[u8], header: &Header) -> Option<CellRefusal>
     records_refusal(behind(bytes, header.lead), header.columns, header.rows)
 }
 
-/// Reads a file's header where the file is a cell, or refuses it by the first condition that holds.
+// Reads a file's header where the file is a cell, or refuses it by the first condition that holds.
 #[tactic(auto, using(crate::proofs::Cells::refusal_parts))]
 pub(crate) fn read_cell(bytes: &[u8]) -> Result<Header, CellRefusal>
     ensures refusal { result_err result ≡ refusal_of bytes.now }

@@ -5,7 +5,7 @@ ghost use Rattle.std.specs.List.{prefix_len};
 
 use byteorder::{BigEndian, ByteOrder};
 
-/// The number of the two bytes at a place, the highest first.
+// The number of the two bytes at a place, the highest first.
 pub(crate) fn word(bytes: &[u8], at: usize) -> u16
     requires { at + 2 ≤ length bytes.now }
     ensures { result ≡ word_at bytes.now at }
@@ -13,7 +13,7 @@ pub(crate) fn word(bytes: &[u8], at: usize) -> u16
     BigEndian::read_u16(&bytes[at..])
 }
 
-/// The number of the four bytes at a place, the highest first.
+// The number of the four bytes at a place, the highest first.
 pub(crate) fn long(bytes: &[u8], at: usize) -> u32
     requires { at + 4 ≤ length bytes.now }
     ensures { result ≡ long_at bytes.now at }
@@ -21,7 +21,7 @@ pub(crate) fn long(bytes: &[u8], at: usize) -> u32
     BigEndian::read_u32(&bytes[at..])
 }
 
-/// Whether the bytes from a place on spell a word.
+// Whether the bytes from a place on spell a word.
 #[tactic(auto, unfolding(crate::specs::Field::spells))]
 pub(crate) fn has_word(text: &[u8], at: usize, word: &[u8]) -> bool
     requires { at ≤ length text.now }
@@ -30,7 +30,7 @@ pub(crate) fn has_word(text: &[u8], at: usize, word: &[u8]) -> bool
     text[at..].starts_with(word)
 }
 
-/// How many blanks a field begins with.
+// How many blanks a field begins with.
 fn blanks(field: &[u8]) -> usize
     ensures exact { result ≡ prefix_len is_blank field.now }
     ensures within { result ≤ length field.now }
@@ -38,7 +38,7 @@ fn blanks(field: &[u8]) -> usize
     field.iter().take_while(|byte| **byte == b' ').count()
 }
 
-/// The number in a field: decimal digits, at least one, after any number of blanks.
+// The number in a field: decimal digits, at least one, after any number of blanks.
 #[tactic(auto, unfolding(crate::specs::Field::number_of))]
 pub(crate) fn number(field: &[u8]) -> Option<u16>
     requires { length field.now ≤ 4 }
@@ -48,7 +48,7 @@ pub(crate) fn number(field: &[u8]) -> Option<u16>
     digits(&field[blanks(field)..])
 }
 
-/// The number that decimal digits spell, where there is at least one and nothing else.
+// The number that decimal digits spell, where there is at least one and nothing else.
 fn digits(field: &[u8]) -> Option<u16>
     requires { length field.now ≤ 4 }
     ensures exact { result ≡ (if are_digits field.now then Some (decimal_value field.now) else None) }

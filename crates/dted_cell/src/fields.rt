@@ -14,16 +14,16 @@ ghost use Rattle.dted_cell.specs.Refusal.{
 use crate::CellRefusal;
 use crate::field::number;
 
-/// An angle of the origin.
+// An angle of the origin.
 #[derive(Clone, Copy)]
 pub(crate) struct Angle {
-    /// Degrees east of 180 degrees west, or north of the south pole.
+    // Degrees east of 180 degrees west, or north of the south pole.
     pub(crate) degrees: u16,
-    /// Its minutes and seconds are 0.
+    // Its minutes and seconds are 0.
     pub(crate) is_whole: bool,
 }
 
-/// The intervals, in tenths of an arc-second, and the counts of meridians and of posts on each.
+// The intervals, in tenths of an arc-second, and the counts of meridians and of posts on each.
 #[derive(Clone, Copy)]
 pub(crate) struct Lattice {
     pub(crate) lon_interval: u16,
@@ -32,7 +32,7 @@ pub(crate) struct Lattice {
     pub(crate) rows: u16,
 }
 
-/// What a header's fields say.
+// What a header's fields say.
 #[derive(Clone, Copy)]
 pub(crate) struct Fields {
     pub(crate) lon: Angle,
@@ -40,7 +40,7 @@ pub(crate) struct Fields {
     pub(crate) lattice: Lattice,
 }
 
-/// The number in the field from one byte up to another, or the refusal of its offset.
+// The number in the field from one byte up to another, or the refusal of its offset.
 fn required(text: &[u8], from: u16, to: u16) -> Result<u16, CellRefusal>
     requires ordered { from ≤ to }
     requires narrow { to ≤ from + 4 }
@@ -54,7 +54,7 @@ fn required(text: &[u8], from: u16, to: u16) -> Result<u16, CellRefusal>
     }
 }
 
-/// Degrees on either side of the middle of two halves, from the end of the negative one.
+// Degrees on either side of the middle of two halves, from the end of the negative one.
 fn from_end(half: u16, degrees: u16, is_positive: bool) -> u16
     requires within { degrees ≤ half }
     requires small { half ≤ 180 }
@@ -68,7 +68,7 @@ fn from_end(half: u16, degrees: u16, is_positive: bool) -> u16
     }
 }
 
-/// The angle at an offset, with one of two letters, or the refusal of its first bad field.
+// The angle at an offset, with one of two letters, or the refusal of its first bad field.
 #[tactic(auto, unfolding(crate::specs::Refusal::angle_conditions))]
 fn read_angle(
     text: &[u8],
@@ -100,7 +100,7 @@ fn read_angle(
     })
 }
 
-/// The intervals and the counts, or the refusal of the first that is bad.
+// The intervals and the counts, or the refusal of the first that is bad.
 #[tactic(auto, unfolding(crate::specs::Refusal::lattice_conditions))]
 fn read_lattice(text: &[u8]) -> Result<Lattice, CellRefusal>
     requires { 80 ≤ length text.now }
@@ -119,7 +119,7 @@ fn read_lattice(text: &[u8]) -> Result<Lattice, CellRefusal>
     })
 }
 
-/// The fields, or the refusal of the first that is bad.
+// The fields, or the refusal of the first that is bad.
 #[tactic(auto, using(crate::proofs::First::fields_first))]
 pub(crate) fn read_fields(text: &[u8]) -> Result<Fields, CellRefusal>
     requires { 80 ≤ length text.now }

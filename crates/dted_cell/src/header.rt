@@ -35,13 +35,13 @@ use crate::fields::{Fields, read_fields};
 use crate::lead::{behind, lead};
 use terrain_base::{CellLevel, Square, columns, lon_step, rows};
 
-/// How many bytes the header has.
+// How many bytes the header has.
 pub(crate) const HEADER_LENGTH: usize = 3428;
 
-/// What a good header says.
+// What a good header says.
 #[derive(Clone, Copy)]
 pub(crate) struct Header {
-    /// How many bytes stand before it.
+    // How many bytes stand before it.
     pub(crate) lead: usize,
     pub(crate) square: Square,
     pub(crate) level: CellLevel,
@@ -49,8 +49,8 @@ pub(crate) struct Header {
     pub(crate) rows: u16,
 }
 
-/// The square at these degrees east of 180 degrees west and north of the south pole. There is none at
-/// the north pole.
+// The square at these degrees east of 180 degrees west and north of the south pole. There is none at
+// the north pole.
 fn square_from(lon: u16, lat: u16) -> Option<Square>
     requires { lat ≤ 180 }
     ensures { result ≡ (if lat == 180 then None else Some (square_of lon lat)) }
@@ -64,7 +64,7 @@ fn square_from(lon: u16, lat: u16) -> Option<Square>
     })
 }
 
-/// The square at the origin, unless that is no corner of a square.
+// The square at the origin, unless that is no corner of a square.
 fn square(fields: &Fields) -> Option<Square>
     requires { fields.now.lat.degrees ≤ 180 }
     ensures { result ≡ (if not (fields.now.lon.is_whole && fields.now.lat.is_whole) || fields.now.lat.degrees == 180
@@ -76,7 +76,7 @@ fn square(fields: &Fields) -> Option<Square>
     square_from(fields.lon.degrees, fields.lat.degrees)
 }
 
-/// The level of a latitude interval in tenths of an arc-second.
+// The level of a latitude interval in tenths of an arc-second.
 fn level(lat_interval: u16) -> Option<CellLevel>
     ensures { result ≡ level_of_interval lat_interval }
 {
@@ -88,15 +88,15 @@ fn level(lat_interval: u16) -> Option<CellLevel>
     }
 }
 
-/// A square and a level.
+// A square and a level.
 #[derive(Clone, Copy)]
 struct Shape {
     square: Square,
     level: CellLevel,
 }
 
-/// The square and the level of a header, or the refusal of its first bad field, of its origin, its
-/// spacing or its counts.
+// The square and the level of a header, or the refusal of its first bad field, of its origin, its
+// spacing or its counts.
 #[tactic(auto, using(crate::proofs::Shapes::shape_first))]
 fn read_shape(text: &[u8]) -> Result<Shape, CellRefusal>
     requires { 80 ≤ length text.now }
@@ -120,7 +120,7 @@ fn read_shape(text: &[u8]) -> Result<Shape, CellRefusal>
     Ok(Shape { square, level })
 }
 
-/// The series designator of a level.
+// The series designator of a level.
 fn series(level: CellLevel) -> &'static [u8; 5]
     ensures { result.now ≡ series_of level }
 {
@@ -131,7 +131,7 @@ fn series(level: CellLevel) -> &'static [u8; 5]
     }
 }
 
-/// The refusal of the labels behind the user header label, at a level.
+// The refusal of the labels behind the user header label, at a level.
 #[tactic(auto, unfolding(crate::specs::Refusal::label_conditions))]
 fn label_refusal(text: &[u8], level: CellLevel) -> Option<CellRefusal>
     requires long { 3428 ≤ length text.now }
@@ -153,7 +153,7 @@ fn label_refusal(text: &[u8], level: CellLevel) -> Option<CellRefusal>
     None
 }
 
-/// Reads the header where a text begins with one, or refuses by the first of its conditions.
+// Reads the header where a text begins with one, or refuses by the first of its conditions.
 #[tactic(auto, using(crate::proofs::Headers::text_first))]
 fn read_text(text: &[u8]) -> Result<Shape, CellRefusal>
     requires { 3428 ≤ length text.now }
@@ -171,7 +171,7 @@ fn read_text(text: &[u8]) -> Result<Shape, CellRefusal>
     }
 }
 
-/// Reads the header of a file, behind its lead, or refuses by the first of the header's conditions.
+// Reads the header of a file, behind its lead, or refuses by the first of the header's conditions.
 #[tactic(auto, unfolding(crate::specs::Refusal::header_conditions))]
 pub(crate) fn read_header(bytes: &[u8]) -> Result<Header, CellRefusal>
     ensures refusal { result_err result ≡ first_of (header_conditions bytes.now) }
@@ -189,7 +189,7 @@ pub(crate) fn read_header(bytes: &[u8]) -> Result<Header, CellRefusal>
     Ok(header_of(lead, shape))
 }
 
-/// The header of a square and a level.
+// The header of a square and a level.
 fn header_of(lead: usize, shape: Shape) -> Header
     ensures lead { result.lead ≡ lead }
     ensures square { result.square ≡ shape.square }

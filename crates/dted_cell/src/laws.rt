@@ -5,6 +5,7 @@ ghost use Rattle.terrain_base.specs.declared.level.CellLevel.{CellLevel};
 ghost use Rattle.terrain_base.specs.declared.post.Post.{Post};
 ghost use Rattle.dted_cell.specs.declared.refusal.CellRefusal.{CellRefusal};
 ghost use Rattle.dted_cell.specs.Cell.{IsCell, IsSomeCell, square_in, level_in, posts_in};
+ghost use Rattle.dted_cell.specs.CellLaws.{ExtremesBound, VoidsHaveNone, PostsAreHeights};
 ghost use Rattle.dted_cell.specs.Field.{number_of, IsNumberField};
 ghost use Rattle.dted_cell.specs.Lead.{AreLabels, lead_of};
 ghost use Rattle.dted_cell.specs.Refusal.{IsFirst, conditions_of, refusal_of};
@@ -37,4 +38,16 @@ pub fn number_field()
 /// The lead is all the labels at the start of a file, at most four.
 pub fn lead_is_labels()
     ensures { (bytes : List ℕ) → (count : ℕ) × AreLabels bytes count × (lead_of bytes ≡ 80 * count) }
+{}
+
+/// The extremes are the heights of two posts, and all others lie between them. There are none exactly where every
+/// post is void.
+pub fn extremes_bound_posts()
+    ensures bound { ExtremesBound }
+    ensures none { VoidsHaveNone }
+{}
+
+/// A post of a cell is void or from -16000 to 16000 metres.
+pub fn posts_are_heights()
+    ensures { PostsAreHeights }
 {}

@@ -5,7 +5,7 @@ ghost use Rattle.dted_cell.specs.Lead.{is_label, lead_of, text_of};
 
 use crate::field::has_word;
 
-/// Whether a block of 80 bytes is whole and begins with `VOL` or `HDR`.
+// Whether a block of 80 bytes is whole and begins with `VOL` or `HDR`.
 fn has_label(bytes: &[u8], block: usize) -> bool
     requires { block < 4 }
     ensures { result ≡ is_label bytes.now block }
@@ -14,7 +14,7 @@ fn has_label(bytes: &[u8], block: usize) -> bool
     at + 80 <= bytes.len() && (has_word(bytes, at, b"VOL") || has_word(bytes, at, b"HDR"))
 }
 
-/// How many blocks of labels stand before the header, at most four.
+// How many blocks of labels stand before the header, at most four.
 fn labels(bytes: &[u8]) -> usize
     ensures exact { result ≡ prefix_len (is_label bytes.now) (range_with_len 0 4) }
     ensures few { result ≤ 4 }
@@ -22,7 +22,7 @@ fn labels(bytes: &[u8]) -> usize
     (0..4).take_while(|block| has_label(bytes, *block)).count()
 }
 
-/// How many bytes of labels stand before the header.
+// How many bytes of labels stand before the header.
 #[tactic(auto, using(crate::proofs::Leads::lead_within), unfolding(crate::specs::Lead::lead_of))]
 pub(crate) fn lead(bytes: &[u8]) -> usize
     ensures exact { result ≡ lead_of bytes.now }
@@ -32,7 +32,7 @@ pub(crate) fn lead(bytes: &[u8]) -> usize
     80 * labels(bytes)
 }
 
-/// What follows the lead.
+// What follows the lead.
 #[tactic(auto, unfolding(crate::specs::Lead::text_of))]
 pub(crate) fn behind(bytes: &[u8], lead: usize) -> &[u8]
     requires is_lead { lead ≡ lead_of bytes.now }

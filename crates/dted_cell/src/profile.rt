@@ -1,6 +1,7 @@
 // A column of a cell.
 ghost use Rattle.std.specs.Prelude.{◌≡◌, ◌+◌, ◌*◌, ◌≤◌, length};
-ghost use Rattle.dted_cell.specs.Cell.{post_of_row, is_void_post};
+ghost use Rattle.dted_cell.specs.Cell.{AreElevations, post_of_row, is_void_post};
+ghost use Rattle.dted_cell.specs.Elevation.{IsPost};
 
 use crate::elevation::{VOID, post};
 use crate::field::word;
@@ -20,25 +21,31 @@ impl<'a> Model for ProfileView<'a> {
     ghost Value = { List ℕ };
 
     ghost view = { λ p. p.elevations.now };
+
+    ghost use Rattle.dted_cell.specs.Cell.{AreElevations};
+
+    ghost invariant = { λ p. AreElevations p.elevations.now };
 }
 
 impl<'a> ProfileView<'a> {
-    /// The view of elevations.
+    // The view of elevations.
     pub(crate) fn of(elevations: &'a [u8]) -> ProfileView<'a>
+        requires { AreElevations elevations.now }
         ensures { result ≡ elevations.now }
     {
         ProfileView { elevations }
     }
 
-    /// The post of a row.
+    /// The post of a row, from -16000 to 16000 metres where it is not void.
     pub fn post(&self, row: u16) -> Post
         requires { 2 * row + 2 ≤ length self.now }
-        ensures { result ≡ post_of_row self.now row }
+        ensures value { result ≡ post_of_row self.now row }
+        ensures range { IsPost result }
     {
         post(word(self.elevations, 2 * row as usize))
     }
 
-    /// Whether the post of a row is void.
+    // Whether the post of a row is void.
     pub(crate) fn is_void(&self, row: u16) -> bool
         requires { 2 * row + 2 ≤ length self.now }
         ensures { result ≡ is_void_post (post_of_row self.now row) }

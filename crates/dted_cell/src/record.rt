@@ -26,14 +26,14 @@ use crate::elevation::{HIGHEST, VOID, signed};
 use crate::field::{long, word};
 use crate::header::HEADER_LENGTH;
 
-/// Where the record of a column begins.
+// Where the record of a column begins.
 pub(crate) fn record_start(rows: u16, col: u16) -> usize
     ensures { result ≡ record_at rows col }
 {
     HEADER_LENGTH + col as usize * (12 + 2 * rows as usize)
 }
 
-/// The refusal of a height, by its word.
+// The refusal of a height, by its word.
 fn height_refusal(word: u16, col: u16, row: u16) -> Option<CellRefusal>
     ensures { result ≡ (CellRefusal.HeightOutOfRange col row (signed_of word) when is_out_of_range word) }
 {
@@ -48,7 +48,7 @@ fn height_refusal(word: u16, col: u16, row: u16) -> Option<CellRefusal>
     }
 }
 
-/// The refusal of the southernmost height of a column that is out of range.
+// The refusal of the southernmost height of a column that is out of range.
 #[tactic(auto, using(crate::proofs::First::map_next, crate::proofs::First::map_found))]
 fn heights_refusal(text: &[u8], rows: u16, col: u16) -> Option<CellRefusal>
     requires { record_at rows (col + 1) ≤ length text.now }
@@ -63,7 +63,7 @@ fn heights_refusal(text: &[u8], rows: u16, col: u16) -> Option<CellRefusal>
     None
 }
 
-/// The sum of bytes.
+// The sum of bytes.
 fn summed(bytes: &[u8]) -> u32
     requires { length bytes.now < 2 ^ 20 }
     ensures { result ≡ sum bytes.now }
@@ -71,7 +71,7 @@ fn summed(bytes: &[u8]) -> u32
     bytes.iter().map(|byte| u32::from(*byte)).sum()
 }
 
-/// The refusal of a column's record.
+// The refusal of a column's record.
 fn record_refusal(text: &[u8], rows: u16, col: u16) -> Option<CellRefusal>
     requires { record_at rows (col + 1) ≤ length text.now }
     ensures { result ≡ first_of (record_conditions text.now rows col) }
@@ -96,7 +96,7 @@ fn record_refusal(text: &[u8], rows: u16, col: u16) -> Option<CellRefusal>
     heights_refusal(text, rows, col)
 }
 
-/// The refusal of the westernmost record that is not good.
+// The refusal of the westernmost record that is not good.
 #[tactic(auto, using(crate::proofs::First::flat_next, crate::proofs::First::flat_found))]
 pub(crate) fn records_refusal(text: &[u8], columns: u16, rows: u16) -> Option<CellRefusal>
     requires { record_at rows columns ≤ length text.now }

@@ -3,7 +3,7 @@ use crate::{CellBytes, CellRefusal, CellView};
 use std::alloc::{AllocError, Global};
 use terrain_base::{CellLevel, Extremes, Post};
 
-/// What a cell of one word, but for one post, has in its header and records.
+// What a cell of one word, but for one post, has in its header and records.
 #[derive(Clone, Copy)]
 struct Plan {
     origin: &'static [u8],
@@ -17,7 +17,7 @@ struct Plan {
     odd_word: u16,
 }
 
-/// A cell of level 0 at 0 north 0 east, whose posts are all 0 but for one.
+// A cell of level 0 at 0 north 0 east, whose posts are all 0 but for one.
 const EQUATOR: Plan = Plan {
     origin: b"0000000E0000000N",
     intervals: b"03000300",
@@ -30,7 +30,7 @@ const EQUATOR: Plan = Plan {
     odd_word: 0,
 };
 
-/// Writes bytes over those at an offset.
+// Writes bytes over those at an offset.
 fn put(cell: &mut Vec<u8>, at: usize, text: &[u8]) {
     if at <= cell.len() && text.len() <= cell.len() - at {
         cell[at..at + text.len()].copy_from_slice(text);
@@ -78,12 +78,12 @@ fn build(alloc: Global, plan: &Plan) -> Result<Vec<u8>, AllocError> {
     Ok(cell)
 }
 
-/// The refusal of a file, if there is one.
+// The refusal of a file, if there is one.
 fn refusal(bytes: &[u8]) -> Option<CellRefusal> {
     CellView::read(bytes).err()
 }
 
-/// The post of a file at a column and a row.
+// The post of a file at a column and a row.
 fn post(bytes: &[u8], col: u16, row: u16) -> Option<Post> {
     let view = CellView::read(bytes).ok()?;
     if col < view.columns() && row < view.rows() {
@@ -93,7 +93,7 @@ fn post(bytes: &[u8], col: u16, row: u16) -> Option<Post> {
     }
 }
 
-/// The bytes at an offset and behind it.
+// The bytes at an offset and behind it.
 fn pair(bytes: &[u8], at: usize) -> Option<(u8, u8)> {
     if at < 100 && at + 1 < bytes.len() {
         Some((bytes[at], bytes[at + 1]))
@@ -102,7 +102,7 @@ fn pair(bytes: &[u8], at: usize) -> Option<(u8, u8)> {
     }
 }
 
-/// The first bytes of a file.
+// The first bytes of a file.
 fn front(bytes: &[u8], length: usize) -> &[u8] {
     if length <= bytes.len() {
         &bytes[..length]
@@ -213,7 +213,7 @@ fn each_field_is_refused_at_its_place(rt: HostRuntime) {
     }
 }
 
-/// A file with blocks of labels before it.
+// A file with blocks of labels before it.
 fn labelled(alloc: Global, blocks: usize, cell: &[u8]) -> Result<Vec<u8>, AllocError> {
     let mut file = Vec::new(alloc);
     for block in 0..blocks {

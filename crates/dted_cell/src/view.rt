@@ -1,5 +1,5 @@
 // A cell, read where its bytes lie.
-ghost use Rattle.std.specs.Prelude.{◌≡◌, ℕ, ◌+◌, ◌*◌, ◌^◌, ◌<◌, ◌≤◌, ◌↔◌, length, fold, count_by, IfOk, IsOk, OnOk, IfSome, IsNone};
+ghost use Rattle.std.specs.Prelude.{◌≡◌, ℕ, ◌+◌, ◌*◌, ◌^◌, ◌<◌, ◌≤◌, ◌↔◌, length, fold, count_by, IfOk, IsOk, OnOk, IfSome, IsNone, None};
 ghost use Rattle.std.specs.Result.{result_err};
 ghost use Rattle.dted_cell.specs.Lead.{text_of};
 ghost use Rattle.dted_cell.specs.Record.{record_at};
@@ -22,6 +22,7 @@ ghost use Rattle.dted_cell.specs.Cell.{
   IsAllVoid,
   BoundsPosts,
 };
+ghost use Rattle.dted_cell.specs.Elevation.{IsPost};
 ghost use Rattle.dted_cell.specs.Good.{IsGood};
 ghost use Rattle.dted_cell.specs.Refusal.{refusal_of};
 
@@ -55,7 +56,7 @@ impl<'a> Model for CellView<'a> {
 }
 
 impl<'a> CellView<'a> {
-    /// Reads a file of DTED level 0, 1 or 2. Nothing is copied, and each record is passed over once.
+    /// Reads a file of DTED level 0, 1 or 2. Nothing is copied.
     pub fn read(bytes: &'a [u8]) -> Result<CellView<'a>, CellRefusal>
         ensures ok { IsOk result ↔ IsSomeCell bytes.now }
         ensures view { IfOk result (λ view. view ≡ bytes.now) }
@@ -67,7 +68,7 @@ impl<'a> CellView<'a> {
         CellView::of_bytes(bytes)
     }
 
-    /// The view of a file that is a cell, or its refusal.
+    // The view of a file that is a cell, or its refusal.
     fn of_bytes(bytes: &'a [u8]) -> Result<CellView<'a>, CellRefusal>
         ensures view { IfOk result (λ view. view ≡ bytes.now) }
         ensures refusal { result_err result ≡ refusal_of bytes.now }
@@ -76,7 +77,7 @@ impl<'a> CellView<'a> {
         Ok(CellView::of(bytes, header))
     }
 
-    /// The view of a good file by its header.
+    // The view of a good file by its header.
     pub(crate) fn of(bytes: &'a [u8], header: Header) -> CellView<'a>
         requires { IsGood bytes.now header }
         ensures { result ≡ bytes.now }
@@ -116,9 +117,10 @@ impl<'a> CellView<'a> {
         self.header.rows
     }
 
-    /// What follows the lead.
-    #[tactic(auto, using(crate::proofs::Views::view_lead, crate::proofs::Views::view_long, crate::proofs::Leads::lead_within))]
+    // What follows the lead.
+    #[tactic(auto, using(crate::proofs::Views::view_lead, crate::proofs::Views::view_long, crate::proofs::Views::view_accepted, crate::proofs::Leads::lead_within))]
     fn text(&self) -> &'a [u8]
+        ensures accepted { refusal_of self.now ≡ None }
         ensures text { result.now ≡ text_of self.now }
         ensures long { record_at (rows_in self.now) (columns_in self.now) ≤ length result.now }
     {
@@ -139,16 +141,17 @@ impl<'a> CellView<'a> {
         ProfileView::of(&text[start..start + 2 * rows as usize])
     }
 
-    /// The post of a column and a row.
+    /// The post of a column and a row, from -16000 to 16000 metres where it is not void.
     pub fn post(&self, col: u16, row: u16) -> Post
         requires col { col < columns_in self.now }
         requires row { row < rows_in self.now }
-        ensures { result ≡ post_in self.now col row }
+        ensures value { result ≡ post_in self.now col row }
+        ensures range { IsPost result }
     {
         self.profile(col).post(row)
     }
 
-    /// How many posts of a column are void.
+    // How many posts of a column are void.
     #[tactic(auto, using(crate::proofs::Counts::count_next))]
     fn voids_of(&self, col: u16) -> u32
         requires { col < columns_in self.now }
@@ -176,7 +179,7 @@ impl<'a> CellView<'a> {
         voids
     }
 
-    /// Extremes, with the posts of a column.
+    // Extremes, with the posts of a column.
     #[tactic(auto, using(crate::proofs::Counts::fold_next))]
     fn extremes_with(&self, before: Option<Extremes>, col: u16) -> Option<Extremes>
         requires { col < columns_in self.now }
@@ -199,7 +202,7 @@ impl<'a> CellView<'a> {
         self.extremes_of()
     }
 
-    /// The same, by every post in turn.
+    // The same, by every post in turn.
     #[tactic(auto, using(crate::proofs::Counts::fold_next), unfolding(crate::specs::Cell::extremes_in, crate::specs::Cell::posts_in))]
     fn extremes_of(&self) -> Option<Extremes>
         ensures { result ≡ extremes_in self.now }
@@ -212,7 +215,7 @@ impl<'a> CellView<'a> {
     }
 }
 
-/// Extremes, with one post more.
+// Extremes, with one post more.
 fn widen(extremes: Option<Extremes>, post: Post) -> Option<Extremes>
     ensures { result ≡ widened extremes post }
 {

@@ -1,5 +1,6 @@
-use Rattle.std.proofs.Common.{◌+◌, ◌*◌, ◌≤◌, length, rules, sym, ap, ◌∙◌}
-use Rattle.dted_cell.specs.Cell.{columns_in, post_of_row}
+use Rattle.std.proofs.Common.{◌+◌, ◌*◌, ◌≤◌, length, rules, sym, ap, subst, ◌∙◌}
+use Rattle.dted_cell.specs.Cell.{AreElevations, columns_in, post_of_row}
+use Rattle.dted_cell.proofs.Heights.{profile_elevations}
 use Rattle.dted_cell.proofs.Views.{profile_is, profile_post, start_fits}
 use Rattle.dted_cell.proofs.view.CellView.profile.Goals as goal
 
@@ -9,6 +10,11 @@ slice_bounds-of-end c =
     let fits : c.record_start-start.result + 8 + 2 * c.rows-rows.result ≤ length c.text-text.result.now =
     start_fits c.text-text.result.now c.record_start-start.result c.rows-rows.result (columns_in c.args.self.now) c.args.col long c.requires c.record_start-start.ensures in
     search rules
+
+pub of-requires : goal.of-requires
+of-requires c =
+    let same = profile_is c.args.self.now c.text-text.result.now c.record_start-start.result c.rows-rows.result c.args.col c.text-text.ensures.text c.rows-rows.ensures c.record_start-start.ensures in
+    subst AreElevations (sym same) (profile_elevations c.args.self.now c.args.col c.text-text.ensures.accepted c.requires)
 
 pub returns-clause-bytes : goal.returns-clause-bytes
 returns-clause-bytes c = c.of.ensures ∙ profile_is c.args.self.now c.text-text.result.now c.record_start-start.result c.rows-rows.result c.args.col c.text-text.ensures.text c.rows-rows.ensures c.record_start-start.ensures
