@@ -1,4 +1,3 @@
 pub mod Manifest
-pub mod Refused
-pub mod Rows
+pub mod Reading
 pub mod Laws

@@ -1,58 +1,46 @@
--- What a manifest says, and its text.
-use Rattle.std.specs.Prelude.{◌≡◌, ℕ, ◌≤◌, List, [], ◌∷◌, ◌++◌, length, map, codes, decimal}
-use Rattle.std.specs.Fmt.{signed_decimal}
+-- The manifest of version 3: its rows are the keys of cells.
+use Rattle.std.specs.Prelude.{◌≡◌, ℕ, ◌≤◌, Bool, true, not, List, length}
+use Rattle.std.specs.List.{list_any}
 use Rattle.std.specs.List.Sorted.{IsStrictlySortedBy}
+use Rattle.std.specs.Ordering.{eq_by_cmp}
+use Rattle.terrain_base.specs.declared.cell_key.CellKey.{CellKey}
 use Rattle.terrain_base.specs.declared.params.Params.{Params}
-use Rattle.terrain_base.specs.declared.square.Square.{Square}
-use Rattle.terrain_base.specs.SquareOrder.{square_cmp}
-use Rattle.terrain_base.specs.SquareText.{square_text}
-use Rattle.db_manifest.specs.declared.state.ManifestState.{ManifestState}
-use Rattle.db_manifest.specs.declared.state.ManifestState.TheVariants.{Closed}
+use Rattle.terrain_base.specs.CellKey.{key_cmp}
+use Rattle.manifest_lines.specs.declared.state.State.{State}
+use Rattle.manifest_lines.specs.declared.state.State.TheVariants.{Closed, Put, Drop, Rebuild}
+use Rattle.manifest_lines.specs.declared.version.Version.TheVariants.{Three}
+use Rattle.manifest_lines.specs.KeyRow.{key_grammar}
+use Rattle.manifest_lines.specs.Manifest as lines
+use Rattle.manifest_lines.specs.Refused as refused
 
--- what a manifest says
-pub record Contents : Type 0 where
-  pub version : ℕ
-  pub params : Params
-  pub state : ManifestState
-  pub rows : List Square
+-- what is under way
+abbrev pub ManifestState : Type 0
+ManifestState = State CellKey
 
--- each square is less than those after it
-abbrev pub Ascend : List Square → Type 0
-Ascend rows = IsStrictlySortedBy square_cmp rows
+-- what a manifest says: params, state and rows
+abbrev pub Contents : Type 0
+Contents = lines.Contents CellKey
 
--- the contents of a good manifest
-pub record IsManifest (contents : Contents) : Type 0 where
-  pub version : contents.version ≡ 1
-  pub ascend : Ascend contents.rows
-  pub few : length contents.rows ≤ 4096
+abbrev pub contents_of : Params → ManifestState → List CellKey → Contents
+contents_of params state rows = record { params = params; state = state; rows = rows }
 
--- ---- its lines, without their line feeds
+-- a key that is put is among the rows, and one that is dropped is not
+abbrev pub fits_rows : ManifestState → List CellKey → Bool
+fits_rows Closed rows = true
+fits_rows (Put key) rows = list_any (eq_by_cmp key_cmp key) rows
+fits_rows (Drop key) rows = not (list_any (eq_by_cmp key_cmp key) rows)
+fits_rows Rebuild rows = true
 
-abbrev pub version_line : List ℕ
-version_line = codes "terrain-db 1"
+-- a good manifest: its rows ascend, are at most 4096, and are as what is under way has them
+pub record IsManifest (params : Params) (state : ManifestState) (rows : List CellKey) : Type 0 where
+  pub ascend : IsStrictlySortedBy key_cmp rows
+  pub few : length rows ≤ 4096
+  pub fits : fits_rows state rows ≡ true
 
-abbrev pub cap_line : ℕ → List ℕ
-cap_line cap = codes "cap " ++ decimal cap
+-- its text
+unfoldable pub manifest_text : Params → ManifestState → List CellKey → List ℕ
+manifest_text params state rows = lines.manifest_text key_grammar Three (contents_of params state rows)
 
-abbrev pub cells_line : ℕ → List ℕ
-cells_line count = codes "cells " ++ decimal count
-
-abbrev pub state_line : ManifestState → List ℕ
-state_line Closed = codes "state closed"
-
--- the five lines before the rows, with the number of rows that they announce
-abbrev pub head_lines : Params → ManifestState → ℕ → List (List ℕ)
-head_lines params state count =
-    version_line ∷ cap_line params.cap ∷ (codes "fill " ++ signed_decimal params.fill) ∷ state_line state ∷ cells_line count ∷ []
-
-abbrev pub lines_of : Params → ManifestState → ℕ → List Square → List (List ℕ)
-lines_of params state count rows = head_lines params state count ++ map square_text rows
-
--- the lines, each with a line feed behind it
-abbrev pub ended : List (List ℕ) → List ℕ
-ended [] = []
-ended (line ∷ lines) = line ++ 10 ∷ ended lines
-
--- the text of a manifest
-unfoldable pub manifest_text : Contents → List ℕ
-manifest_text m = ended (lines_of m.params m.state (length m.rows) m.rows)
+-- the line for which bytes are refused
+abbrev pub IsBadLine : ℕ → List ℕ → Type 0
+IsBadLine line bytes = refused.IsBadLine key_grammar Three line bytes

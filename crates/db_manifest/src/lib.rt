@@ -1,19 +1,12 @@
-//! The manifest of a database: its params, its state and the squares that it holds, in one spelling.
+//! The manifest of a database: its params, what is under way and the keys of its cells, in one spelling.
 #![tactic(auto)]
 
-mod head;
 pub mod laws;
-mod line;
 mod manifest;
-mod number;
 mod read;
-mod refusal;
-mod row;
-mod state;
 #[cfg(test)]
 mod tests;
 mod write;
 
-pub use manifest::Manifest;
-pub use refusal::ManifestRefusal;
-pub use state::ManifestState;
+pub use manifest::{Manifest, ManifestState};
+pub use manifest_lines::{ManifestRefusal, manifest_version};

@@ -1,36 +1,42 @@
 // A manifest.
-ghost use Rattle.std.specs.Prelude.{◌≡◌, ◌≤◌, length};
-ghost use Rattle.db_manifest.specs.Manifest.{Contents, IsManifest, Ascend};
+ghost use Rattle.std.specs.Prelude.{◌≡◌, ◌≤◌, length, IsTrue};
+ghost use Rattle.std.specs.List.Sorted.{IsStrictlySortedBy};
+ghost use Rattle.terrain_base.specs.CellKey.{key_cmp};
+ghost use Rattle.db_manifest.specs.Manifest.{Contents, IsManifest, fits_rows};
 
-use crate::ManifestState;
+use manifest_lines::State;
 use std::marker::Model;
-use terrain_base::{Params, Square};
+use terrain_base::{CellKey, Params};
 
-/// What a database says of itself: a version, its params, what is under way and its squares, ascending. It
-/// is seen as these, and is a good manifest.
+/// What is under way in a database.
+pub type ManifestState = State<CellKey>;
+
+/// What a database says of itself: its params, what is under way and the keys of its cells, ascending. It is seen as
+/// these three, and is a good manifest.
 #[derive(Debug, Drop)]
 pub struct Manifest {
-    params: Params,
-    state: ManifestState,
-    rows: Vec<Square>,
+    pub(crate) params: Params,
+    pub(crate) state: ManifestState,
+    pub(crate) rows: Vec<CellKey>,
 }
 
 impl Model for Manifest {
-    ghost use Rattle.db_manifest.specs.Manifest.{Contents, IsManifest};
+    ghost use Rattle.db_manifest.specs.Manifest.{Contents, IsManifest, contents_of};
 
     ghost Value = { Contents };
 
-    ghost view = { λ m. record { version = 1; params = m.params; state = m.state; rows = m.rows.items } };
+    ghost view = { λ m. contents_of m.params m.state m.rows.items };
 
-    ghost invariant = { λ m. IsManifest (record { version = 1; params = m.params; state = m.state; rows = m.rows.items }) };
+    ghost invariant = { λ m. IsManifest m.params m.state m.rows.items };
 }
 
 impl Manifest {
-    /// The manifest with these parts, of this program's version. The rows ascend and are at most 4096.
-    pub fn of(params: Params, state: ManifestState, rows: Vec<Square>) -> Manifest
-        requires ascend { Ascend rows.items }
+    /// The manifest with these parts, of this program's version. The rows ascend and are at most 4096, a key that is
+    /// put is among them, and one that is dropped is not.
+    pub fn of(params: Params, state: ManifestState, rows: Vec<CellKey>) -> Manifest
+        requires ascend { IsStrictlySortedBy key_cmp rows.items }
         requires few { length rows.items ≤ 4096 }
-        ensures version { result.version ≡ 1 }
+        requires fits { IsTrue (fits_rows state rows.items) }
         ensures params { result.params ≡ params }
         ensures state { result.state ≡ state }
         ensures rows { result.rows ≡ rows.items }
@@ -42,13 +48,11 @@ impl Manifest {
         }
     }
 
-    /// The version of its grammar, 1.
+    /// The version of its grammar, 3.
     pub fn version(&self) -> u32
-        ensures { result ≡ self.now.version }
+        ensures { result ≡ 3 }
     {
-        // A field is looked at, so that the proof sees what the value stands for.
-        let _params = &self.params;
-        1
+        3
     }
 
     /// The params of the database.
@@ -65,10 +69,10 @@ impl Manifest {
         self.state
     }
 
-    /// The squares that have a cell, ascending.
-    pub fn rows(&self) -> &[Square]
+    /// The keys that have a cell, ascending.
+    pub fn rows(&self) -> &[CellKey]
         ensures value { result.now ≡ self.now.rows }
-        ensures good { IsManifest self.now }
+        ensures good { IsManifest self.now.params self.now.state self.now.rows }
     {
         &self.rows
     }

@@ -1,28 +1,28 @@
 // The reader of manifests.
-ghost use Rattle.std.specs.Prelude.{◌≡◌, ◌≢◌, ℕ, IfOk, IsErrOf};
-ghost use Rattle.db_manifest.specs.Manifest.{Contents, IsManifest, manifest_text};
-ghost use Rattle.db_manifest.specs.Refused.{IsFirstBad};
-ghost use Rattle.db_manifest.specs.declared.refusal.ManifestRefusal.TheVariants.{NotADatabase};
+ghost use Rattle.std.specs.Prelude.{IfOk, IfErr};
+ghost use Rattle.db_manifest.specs.Reading.{IsTextOf, IsRefusedBy};
 
-use crate::head::read_head;
-use crate::row::read_rows;
-use crate::{Manifest, ManifestRefusal};
+use crate::Manifest;
+use manifest_lines::{ManifestRefusal, Parts, Version, read_parts};
 use std::alloc::Global;
+use terrain_base::CellKey;
 
 impl Manifest {
     /// The manifest whose text the bytes are. Refused, but for want of memory, exactly where they are the text
-    /// of none, and then with their first bad line.
+    /// of none, and then with the line for which they are refused.
     pub fn read(alloc: Global, bytes: &[u8]) -> Result<Manifest, ManifestRefusal>
-        ensures ok { IfOk result (λ manifest. bytes.now ≡ manifest_text manifest) }
-        ensures good { IfOk result IsManifest }
-        ensures again { (m : Contents) → IsManifest m → bytes.now ≡ manifest_text m → IfOk result (λ manifest. manifest ≡ m) }
-        ensures refused { (line : ℕ) → IsErrOf result (NotADatabase line) → IsFirstBad line bytes.now }
+        ensures ok { IfOk result (λ manifest. IsTextOf bytes.now manifest.params manifest.state manifest.rows) }
+        ensures refused { IfErr result (IsRefusedBy bytes.now) }
     {
-        let head = match read_head(bytes) {
-            Ok(head) => head,
-            Err(line) => return Err(ManifestRefusal::NotADatabase { line }),
-        };
-        let rows = read_rows(alloc, head.rest, head.count)?;
-        Ok(Manifest::of(head.params, head.state, rows))
+        let Parts {
+            params,
+            state,
+            rows,
+        } = read_parts::<CellKey>(alloc, Version::Three, bytes)?;
+        Ok(Manifest {
+            params,
+            state,
+            rows,
+        })
     }
 }

@@ -1,5 +1,5 @@
-use Rattle.db_manifest.proofs.Readers.{one_text}
+use Rattle.db_manifest.proofs.Texts.{differ}
 use Rattle.db_manifest.proofs.laws.manifests_differ.Goals as goal
 
 pub returns : goal.returns
-returns c = one_text
+returns c = differ

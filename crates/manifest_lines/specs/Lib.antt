@@ -1,0 +1,9 @@
+pub mod Line
+pub mod Version
+pub mod Grammar
+pub mod Manifest
+pub mod Refused
+pub mod Rows
+pub mod Reading
+pub mod Laws
+pub mod KeyRow
