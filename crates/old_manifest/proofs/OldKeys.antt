@@ -1,24 +1,17 @@
 -- Old rows by their numbers, and rows of version 2 as keys.
-use Rattle.std.specs.Prelude.{◌≡◌, ◌≢◌, ℕ, List, [], ◌∷◌, ◌++◌, length, Option, Some, None, IsTrue, refl}
-use Rattle.std.proofs.Common.{arith, ap, sym, ◌∙◌, get_or}
-use Rattle.std.specs.List.{AllByRecursion}
-use Rattle.std.specs.Ordering.{nat_cmp}
-use Rattle.std.specs.Cmp.{IsTotalOrder}
-use Rattle.std.proofs.lemmas.Cmp.{nat_cmp_total, on_total, then_total}
+use Rattle.std.specs.Prelude.{◌≡◌, ◌++◌, Option, Some, None, IsTrue, refl}
+use Rattle.std.proofs.Common.{arith, ap}
 use Rattle.terrain_base.specs.declared.level.CellLevel.{CellLevel}
 use Rattle.terrain_base.specs.declared.level.CellLevel.TheVariants.{Zero, One, Two}
 use Rattle.terrain_base.specs.SquareText.{square_text}
-use Rattle.terrain_base.proofs.SquareOrder.{squares_total}
 use Rattle.terrain_base.proofs.SquareTexts.{same_square}
 use Rattle.terrain_base.specs.declared.cell_key.CellKey.{CellKey}
 use Rattle.terrain_base.specs.Name.{row_text}
 use Rattle.terrain_base.specs.declared.square.Square.{Square}
 use Rattle.manifest_lines.specs.declared.version.Version.TheVariants.{Two as Second}
 use Rattle.terrain_base.specs.CellKey.{rank_of}
-use Rattle.terrain_base.proofs.KeyTexts.{level_apart, line-square, line-level, all-append, square_cut_rest}
-use Rattle.manifest_lines.specs.Grammar.{IsGrammar}
 use Rattle.old_manifest.specs.declared.row.OldRow.{OldRow}
-use Rattle.old_manifest.specs.Rows.{ending_of, old_suits, old_rank_of, old_text, old_cmp, old_grammar}
+use Rattle.old_manifest.specs.Rows.{ending_of, old_suits, old_rank_of, old_text}
 use Rattle.old_manifest.specs.OldRows.{same_row}
 
 rank_apart : (a b : CellLevel) → rank_of a ≡ rank_of b → a ≡ b
