@@ -8,6 +8,16 @@ ROOT = pathlib.Path(__file__).resolve().parent.parent
 PROGRAM = ROOT / "crates/terrain_tool/out/terrain_tool"
 
 
+class NotBuilt(Exception):
+    """The program has no such command yet."""
+
+
+def commands_of(program):
+    """The words of the commands that a program has, by its usage line."""
+    usage = subprocess.run([str(word) for word in program], stdout=subprocess.PIPE, check=False).stdout.decode()
+    return {form.split()[0] for form in usage.split(" DIR ", 1)[1].split(" | ")}
+
+
 class Stage:
     """Runs a program's words over the database `db` of a folder, and keeps what it said and left."""
 
@@ -17,6 +27,7 @@ class Stage:
         self.database = self.folder / "db"
         self.database.mkdir(exist_ok=True)
         self.said = []
+        self.commands = commands_of(program)
 
     def write(self, name, content):
         path = self.folder / name
@@ -28,6 +39,8 @@ class Stage:
 
     def run(self, *words):
         """One command: its words, its status and what it printed are kept."""
+        if words[0] not in self.commands:
+            raise NotBuilt(words[0])
         done = subprocess.run([*self.program, "db", *words], cwd=self.folder, stdout=subprocess.PIPE, timeout=110, check=False)
         self.said.append([" ".join(words), done.returncode, done.stdout.decode("utf-8", "replace")])
         return done

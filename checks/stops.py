@@ -92,6 +92,9 @@ def main():
     if not shutil.which("strace"):
         print("stops: skipped, strace is not installed")
         return 0
+    if "init" not in stage.commands_of([stage.PROGRAM]):
+        print("stops: skipped, the program has no command init yet")
+        return 0
     failed = 0
     for name, (before, words) in COMMANDS.items():
         with tempfile.TemporaryDirectory() as folder:

@@ -13,7 +13,7 @@ import tempfile
 import cells
 import stage
 
-USAGE = b"usage: terrain DIR init CAP FILL | add FILE"
+USAGE = b"usage: terrain DIR "
 
 
 def said(folder, *words, **named):
@@ -51,6 +51,52 @@ def cell_files(folder):
     yield "audit of a long file", said(folder, ".", "audit", "long.dt0") == (1, b"refused F2 too long long.dt0 limit 16777216\n", b"")
 
 
+def cell_refusals(folder):
+    """Each refusal of a cell's file, by a flat cell that is spoilt in one place."""
+    flat = cells.flat(0, "n00e000")
+
+    def spoilt(at, content):
+        return flat[:at] + content + flat[at + len(content):]
+
+    rows = (
+        (flat[:100], b"C1 too short need 3428 have 100"),
+        (flat[:-1], b"C1 too short need 34162 have 34161"),
+        (spoilt(0, b"UHX"), b"C2 no UHL"),
+        (spoilt(11, b"X"), b"C3 bad field at 11"),
+        (spoilt(7, b"30"), b"C4 off degree"),
+        (spoilt(20, b"0600"), b"C5 wrong spacing"),
+        (spoilt(47, b"0061"), b"C6 wrong counts"),
+        (spoilt(80, b"DSX"), b"C7 no DSI"),
+        (spoilt(143, b"1"), b"C8 series disagrees"),
+        (spoilt(224, b"WGS72"), b"C9 not WGS84"),
+        (spoilt(728, b"ACX"), b"C10 no ACC"),
+        (spoilt(3428, b"\x00"), b"C11 bad sentinel column 0"),
+        (spoilt(3433, b"\x01"), b"C12 bad column 0"),
+        (spoilt(33917, b"\x01"), b"C13 bad checksum column 120 stated 410 summed 411"),
+        (cells.flat(0, "n00e000", changes=[(5, 7, 16001)]), b"C14 height column 5 row 7 value 16001"),
+    )
+    for content, text in rows:
+        (folder / "cell.dt0").write_bytes(content)
+        yield f"refused {text.decode()}", said(folder, ".", "cell", "cell.dt0") == (1, b"refused " + text + b"\n", b"")
+
+
+def tile_refusals(folder):
+    """Refusals of a tile's file."""
+    rows = ((bytes(87), b"M1 truncated at 0 need 88"), (bytes(91), b"M1 truncated at 88 need 4"), (b"\x1f\x8b\x08\x00", b"M6 compressed"))
+    for content, text in rows:
+        (folder / "tile.terrain").write_bytes(content)
+        yield f"refused {text.decode()}", said(folder, ".", "audit", "tile.terrain") == (1, b"refused " + text + b"\n", b"")
+
+
+def full_output(folder):
+    """A report that can't be written is an output fault."""
+    (folder / "flat.dt0").write_bytes(cells.flat(0, "n00e000"))
+    for words in ([".", "cell", "flat.dt0"], [".", "cell", "absent.dt0"], []):
+        with open("/dev/full", "wb") as full:
+            done = subprocess.run([str(stage.PROGRAM), *words], cwd=folder, stdout=full, stderr=subprocess.PIPE, check=False)
+        yield f"{words} to a full output", done.returncode == 5
+
+
 def output_faults(folder):
     """An output that takes nothing leaves what was done."""
     (folder / "flat.dt0").write_bytes(cells.flat(0, "n00e000"))
@@ -76,7 +122,10 @@ def store_faults(folder):
 
 def main():
     failed = 0
-    for check in (usage_lines, cell_files, output_faults, store_faults):
+    checks = [usage_lines, cell_files, cell_refusals, tile_refusals, full_output]
+    if "init" in stage.commands_of([stage.PROGRAM]):
+        checks += [output_faults, store_faults]
+    for check in checks:
         with tempfile.TemporaryDirectory() as folder:
             rows = list(check(pathlib.Path(folder)))
         wrong = [title for title, holds in rows if not holds]

@@ -1,18 +1,11 @@
 //! The program: it hands real files and standard output to the top call, and ends with its status.
-//!
-//! What stands here and in its two adapters is the trusted edge: each is proved against its trait, but
-//! no contract says what a real file or a real output does.
 #![tactic(auto)]
 
-mod folder_library;
-mod std_sink;
-
-use folder_library::FolderLibrary;
+use device_adapters::{FolderLibrary, StdSink};
 use std::env;
 use std::io::ErrorKind;
 use std::process::ExitCode;
 use std::rt::Env;
-use std_sink::StdSink;
 use terrain_base::{NoMemory, SureStore, Work};
 use terrain_top::{Status, run};
 

@@ -1,5 +1,5 @@
 // The call that does all that the program does.
-ghost use Rattle.std.specs.Prelude.{◌≡◌, ◌≢◌, ◌↔◌, IfOk, IfSome, IsSome, IsNone, IsErrOf, Some, ◌++◌, map, string_bytes};
+ghost use Rattle.std.specs.Prelude.{◌≡◌, ◌≢◌, ◌≤◌, ◌↔◌, IfOk, IfSome, IsSome, IsNone, IsErrOf, Some, ◌++◌, map, string_bytes};
 ghost use Rattle.terrain_base.specs.Cause.{Rose};
 ghost use Rattle.terrain_base.specs.Sink.{IsFront};
 ghost use Rattle.terrain_top.specs.Reply.{Says, StopHasCause};
@@ -62,6 +62,10 @@ pub fn run<St: Store, Li: Library, Si: Sink>(
     // A fault comes only where its count rose; no file is asked for where the words are no command.
     ensures input { result ≡ Status.InputFault → Rose (Li.faults files.old) (Li.faults files.new) × IsSome (command_of (map string_bytes words.now)) }
     ensures output { result ≡ Status.OutputFault → Rose (Si.faults out.old) (Si.faults out.new) }
+
+    // The library keeps what it holds, and no count of faults falls.
+    ensures files { (Li.holds files.new ≡ Li.holds files.old) × (Li.faults files.old ≤ Li.faults files.new) }
+    ensures sink { Si.faults out.old ≤ Si.faults out.new }
 
     // No command so far touches the store, makes a tile or finds something amiss.
     ensures store { (St.holds store.new ≡ St.holds store.old) × (St.log store.new ≡ St.log store.old) × (St.faults store.new ≡ St.faults store.old) }
