@@ -9,7 +9,7 @@ use std::rt::Files;
 use std::{fs, str};
 use terrain_base::{DeviceFault, Fetched, Name, Store};
 
-/// The most bytes of a file that are read; a longer one is a fault.
+// The most bytes of a file that are read; a longer one is a fault.
 const FILE_LIMIT: usize = 134_217_728;
 
 /// The files of a real folder, by their names. It tells nothing of what it holds, and counts its faults. A put writes a
