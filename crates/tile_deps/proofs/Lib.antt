@@ -1,0 +1,9 @@
+pub mod AllTiles
+pub mod Listed
+pub mod NextTiles
+pub mod Numbered
+pub mod Rising
+pub mod RunWalk
+pub mod Runs
+pub mod Squares
+pub mod TileLists

@@ -1,0 +1,4 @@
+pub mod Laws
+pub mod Squares
+pub mod Tiles
+pub mod Walk
