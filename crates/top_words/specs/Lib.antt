@@ -1,0 +1,4 @@
+pub mod Arguments
+pub mod Meant
+pub mod Script
+pub mod Words

@@ -1,0 +1,92 @@
+-- Commands, and how they are spelled.
+use Rattle.std.specs.Prelude.{◌≡◌, ◌≤◌, ◌<◌, ◌^◌, ℕ, List, [], ◌∷◌, length, codes, decimal}
+use Rattle.std.specs.Fmt.{signed_decimal}
+use Rattle.terrain_base.specs.declared.cell_key.CellKey.{CellKey}
+use Rattle.terrain_base.specs.declared.params.Params.{Params}
+use Rattle.terrain_base.specs.declared.tile.TileId.{TileId}
+use Rattle.terrain_base.specs.Level.{level_number}
+use Rattle.terrain_base.specs.SquareText.{square_text}
+use Rattle.top_words.specs.declared.command.Query.{Query}
+use Rattle.top_words.specs.declared.command.Query.TheVariants as query
+
+-- an edit of the cells, with the name of its file in bytes
+pub data Edit : Type 0 where
+  Add : (file : List ℕ) → Edit
+  Replace : (file : List ℕ) → Edit
+  Remove : (key : CellKey) → Edit
+
+pub data DatabaseCommand : Type 0 where
+  Ask : (query : Query) → DatabaseCommand
+  Change : (edit : Edit) → DatabaseCommand
+  Apply : (script : List ℕ) → DatabaseCommand
+  Rebuild : DatabaseCommand
+
+pub data Command : Type 0 where
+  Init : (params : Params) → Command
+  Database : (command : DatabaseCommand) → Command
+  ReadCell : (file : List ℕ) → Command
+  Audit : (file : List ℕ) → Command
+  Trial : (count number : ℕ) → Command
+
+-- ---- the words after the folder
+
+abbrev pub tile_words : TileId → List (List ℕ)
+tile_words tile = decimal tile.z ∷ decimal tile.x ∷ decimal tile.y ∷ []
+
+abbrev pub query_words : Query → List (List ℕ)
+query_words query.List = codes "list" ∷ []
+query_words (query.Inspect tile) = codes "inspect" ∷ tile_words tile
+query_words (query.Deps tile) = codes "deps" ∷ tile_words tile
+
+abbrev pub edit_words : Edit → List (List ℕ)
+edit_words (Add file) = codes "add" ∷ file ∷ []
+edit_words (Replace file) = codes "replace" ∷ file ∷ []
+edit_words (Remove key) = codes "remove" ∷ square_text key.square ∷ decimal (level_number key.level) ∷ []
+
+abbrev pub database_words : DatabaseCommand → List (List ℕ)
+database_words (Ask query) = query_words query
+database_words (Change edit) = edit_words edit
+database_words (Apply script) = codes "apply" ∷ script ∷ []
+database_words Rebuild = codes "rebuild" ∷ []
+
+-- numbers in decimal, without leading zeros; a negative one with `-`
+abbrev pub words_of : Command → List (List ℕ)
+words_of (Init params) = codes "init" ∷ decimal params.cap ∷ signed_decimal params.fill ∷ []
+words_of (Database command) = database_words command
+words_of (ReadCell file) = codes "cell" ∷ file ∷ []
+words_of (Audit file) = codes "audit" ∷ file ∷ []
+words_of (Trial count number) = codes "trial" ∷ decimal count ∷ decimal number ∷ []
+
+-- ---- names of files are not empty, and numbers are within their ranges
+
+abbrev pub IsFileName : List ℕ → Type 0
+IsFileName file = 0 < length file
+
+abbrev pub IsGoodEdit : Edit → Type 0
+IsGoodEdit (Add file) = IsFileName file
+IsGoodEdit (Replace file) = IsFileName file
+IsGoodEdit (Remove key) = Unit {0}
+
+abbrev pub IsGoodOfDatabase : DatabaseCommand → Type 0
+IsGoodOfDatabase (Ask query) = Unit {0}
+IsGoodOfDatabase (Change edit) = IsGoodEdit edit
+IsGoodOfDatabase (Apply script) = IsFileName script
+IsGoodOfDatabase Rebuild = Unit {0}
+
+abbrev pub IsGood : Command → Type 0
+IsGood (Init params) = Unit {0}
+IsGood (Database command) = IsGoodOfDatabase command
+IsGood (ReadCell file) = IsFileName file
+IsGood (Audit file) = IsFileName file
+IsGood (Trial count number) = (count ≤ 64) × (number < 2 ^ 64)
+
+-- the words behind the folder are those of the command
+pub record IsSpelled (words : List (List ℕ)) (command : Command) : Type 0 where
+  pub are : words ≡ words_of command
+  pub good : IsGood command
+
+-- the words are a folder and a command
+pub record Spells (words : List (List ℕ)) (command : Command) : Type 0 where
+  pub folder : List ℕ
+  pub are : words ≡ folder ∷ words_of command
+  pub good : IsGood command
