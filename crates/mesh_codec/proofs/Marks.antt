@@ -3,7 +3,8 @@ use Rattle.std.proofs.Common.{◌≡◌, ℕ, ◌+◌, ◌<◌, ◌≤◌, List,
 use Rattle.std.proofs.lemmas.List.{get_or_at, take_at, take_more, take-append-le, length-append, length_push, get_or_append_left, get_or_past, get_or_push, get_or_default}
 use Rattle.std.proofs.lemmas.Bool.{cases_lt}
 use Rattle.std.proofs.lemmas.Bool.Decides.{nat_tests}
-use Rattle.mesh_codec.specs.Mesh.{Mesh, corners, IsEncodable, IsNumbered}
+use Rattle.mesh_codec.specs.Mesh.{Mesh, IsEncodable}
+use Rattle.terrain_base.specs.FirstUse.{IsByFirstUse, corners}
 use Rattle.terrain_base.specs.declared.indexes.Indexes.{Indexes}
 use Rattle.mesh_codec.specs.Text.{mark_after, AreWithinMark}
 
@@ -59,10 +60,10 @@ within_mark mesh h = within_from (corners mesh.triangles) [] 0 (λ k l. absurd (
 contains_left : (before after : List ℕ) (v : ℕ) → Contains before v → Contains (before ++ after) v
 contains_left before after v h = (h.0, omega (arith, h.1, length-append before after), get_or_append_left before after v h.0 h.1 ∙ h.2)
 
-pub numbered_none : IsNumbered 0 []
+pub numbered_none : IsByFirstUse 0 []
 numbered_none = record { in_order = λ place lower h. absurd (omega arith); used = λ vertex h. absurd (omega arith) }
 
-pub numbered_next : (mark index : ℕ) (before : List ℕ) → index ≤ mark → IsNumbered mark before → IsNumbered (mark_after mark index) (before ++ index ∷ [])
+pub numbered_next : (mark index : ℕ) (before : List ℕ) → index ≤ mark → IsByFirstUse mark before → IsByFirstUse (mark_after mark index) (before ++ index ∷ [])
 numbered_next mark index before within n = record {
   in_order = λ place lower h. elim (cases_lt place (length before)) [
     | inl early ↦

@@ -8,7 +8,8 @@ use Rattle.mesh_codec.specs.declared.refusal.Array.TheVariants.{U, V, Height}
 use Rattle.mesh_codec.specs.declared.edge.Edge.{Edge}
 use Rattle.mesh_codec.specs.declared.edge.Edge.TheVariants.{West, South, East, North}
 use Rattle.mesh_codec.specs.Number.{number_at, AreBytes}
-use Rattle.mesh_codec.specs.Mesh.{Mesh, coordinate, corners, edge_of}
+use Rattle.mesh_codec.specs.Mesh.{Mesh, coordinate, edge_of}
+use Rattle.terrain_base.specs.FirstUse.{corners}
 use Rattle.mesh_codec.specs.Text.{header_text, point_text, array_text, arrays_text, index_width, index_data_at, padding_text, indexes_text, triangles_text, edge_text, edges_text, tile_text}
 use Rattle.mesh_codec.specs.Layout.{vertices_in, triangles_in, array_at, list_end, west_at, south_at, east_at, north_at, extensions_at, edge_at}
 use Rattle.mesh_codec.specs.Padding.{HasZeroPadding}

@@ -12,7 +12,8 @@ use Rattle.mesh_codec.specs.declared.refusal.Array.TheVariants.{U, V, Height}
 use Rattle.mesh_codec.specs.declared.edge.Edge.{Edge}
 use Rattle.mesh_codec.specs.declared.edge.Edge.TheVariants.{West, South, East, North}
 use Rattle.mesh_codec.specs.Number.{number_at}
-use Rattle.mesh_codec.specs.Mesh.{Mesh, IsMesh, IsEncodable, IsVertex, IsEdge, coordinate, corners, edge_of}
+use Rattle.mesh_codec.specs.Mesh.{Mesh, IsMesh, IsEncodable, IsVertex, IsEdge, coordinate, edge_of}
+use Rattle.terrain_base.specs.FirstUse.{corners}
 use Rattle.mesh_codec.specs.Text.{IsPoint, IsHeader, point_text, header_text, array_text, index_width, index_data_at, padding_text, indexes_text, edge_text, tile_text}
 use Rattle.mesh_codec.specs.Difference.{HasCodes}
 use Rattle.mesh_codec.specs.HighWater.{HasIndexes, HasEntries}

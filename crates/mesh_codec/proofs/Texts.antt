@@ -7,7 +7,8 @@ use Rattle.terrain_base.specs.declared.indexes.Indexes.{Indexes}
 use Rattle.mesh_codec.specs.declared.codes.Codes.{Codes}
 use Rattle.mesh_codec.specs.declared.refusal.Array.{Array}
 use Rattle.mesh_codec.specs.declared.refusal.Array.TheVariants.{U, V, Height}
-use Rattle.mesh_codec.specs.Mesh.{IsVertex, coordinate, corners}
+use Rattle.mesh_codec.specs.Mesh.{IsVertex, coordinate}
+use Rattle.terrain_base.specs.FirstUse.{corners}
 use Rattle.mesh_codec.specs.Text.{zigzag, array_text, index_width, index_data_at, padding_text}
 
 -- a code of a vertex is below 2 ^ 15

@@ -11,7 +11,8 @@ use Rattle.mesh_codec.specs.declared.refusal.Array.TheVariants.{U, V, Height}
 use Rattle.mesh_codec.specs.declared.edge.Edge.{Edge}
 use Rattle.mesh_codec.specs.declared.edge.Edge.TheVariants.{West, South, East, North}
 use Rattle.mesh_codec.specs.Number.{number_at}
-use Rattle.mesh_codec.specs.Mesh.{Mesh, IsTriangle, IsEdge, coordinate, corners, edge_of}
+use Rattle.mesh_codec.specs.Mesh.{Mesh, IsTriangle, IsEdge, coordinate, edge_of}
+use Rattle.terrain_base.specs.FirstUse.{corners}
 use Rattle.mesh_codec.specs.Text.{index_width, index_data_at}
 use Rattle.mesh_codec.specs.Difference.{difference_at, sum_before, running_value, to_code, code_at, HasCodes}
 use Rattle.mesh_codec.specs.HighWater.{entry_at, mark_at, index_at, is_no_vertex}

@@ -1,7 +1,8 @@
 -- A mesh of codes: the vertices, triangles and edge lists of a tile (quantized-mesh-1.0, vertex data, index
 -- data and edge indices).
-use Rattle.std.specs.Prelude.{◌≢◌, ℕ, ◌+◌, ◌^◌, ◌<◌, ◌≤◌, List, [], ◌∷◌, ◌++◌, length, take, flat_map, slice_index, All, Contains}
+use Rattle.std.specs.Prelude.{◌≢◌, ℕ, ◌+◌, ◌^◌, ◌<◌, ◌≤◌, List, [], ◌∷◌, ◌++◌, length, All}
 use Rattle.terrain_base.specs.declared.indexes.Indexes.{Indexes}
+use Rattle.terrain_base.specs.FirstUse.{IsByFirstUse, corners}
 use Rattle.mesh_codec.specs.declared.codes.Codes.{Codes}
 use Rattle.mesh_codec.specs.declared.refusal.Array.{Array}
 use Rattle.mesh_codec.specs.declared.refusal.Array.TheVariants.{U, V, Height}
@@ -72,22 +73,8 @@ pub record IsMesh (mesh : Mesh) : Type 0 where
   pub east : IsEdge (length mesh.vertices) mesh.east
   pub north : IsEdge (length mesh.vertices) mesh.north
 
--- the vertices of a triangle, in their order
-abbrev pub corners_of : Indexes → List ℕ
-corners_of triangle = triangle.a ∷ triangle.b ∷ triangle.c ∷ []
-
--- the vertices of all triangles, in their order
-abbrev pub corners : List Indexes → List ℕ
-corners triangles = flat_map corners_of triangles
-
--- vertices, of so many, stand in a list by first use: where one stands, each of a lower number stood before,
--- and each is there
-pub record IsNumbered (count : ℕ) (list : List ℕ) : Type 0 where
-  pub in_order : (place lower : ℕ) → lower < slice_index list place → Contains (take place list) lower
-  pub used : (vertex : ℕ) → vertex < count → Contains list vertex
-
 -- The vertices are numbered by first use in the triangles, and each is used. There are not exactly 65536 of
 -- them: a code of two bytes could then not reach from the high water mark 65536 back to vertex 0.
 pub record IsEncodable (mesh : Mesh) : Type 0 where
-  pub numbered : IsNumbered (length mesh.vertices) (corners mesh.triangles)
+  pub numbered : IsByFirstUse (length mesh.vertices) (corners mesh.triangles)
   pub reaches_back : length mesh.vertices ≢ 65536

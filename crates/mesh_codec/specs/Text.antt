@@ -3,7 +3,8 @@ use Rattle.std.specs.Prelude.{ℕ, ◌+◌, ◌-◌, ◌*◌, ◌/◌, ◌^◌, 
 use Rattle.byteorder.specs.Endian.{little_bytes}
 use Rattle.mesh_codec.specs.declared.header.Header.{Header}
 use Rattle.mesh_codec.specs.declared.refusal.Array.TheVariants.{U, V, Height}
-use Rattle.mesh_codec.specs.Mesh.{Mesh, corners, coordinate}
+use Rattle.mesh_codec.specs.Mesh.{Mesh, coordinate}
+use Rattle.terrain_base.specs.FirstUse.{corners}
 
 -- three coordinates of eight bytes each
 abbrev pub IsPoint : List ℕ → Type 0

@@ -9,7 +9,8 @@ use Rattle.mesh_codec.specs.declared.edge.Edge.TheVariants.{West, South, East, N
 use Rattle.mesh_codec.specs.declared.refusal.Array.{Array}
 use Rattle.mesh_codec.specs.declared.refusal.Array.TheVariants.{U, V, Height}
 use Rattle.mesh_codec.specs.Number.{number_at}
-use Rattle.mesh_codec.specs.Mesh.{Mesh, IsMesh, coordinate, corners, edge_of}
+use Rattle.mesh_codec.specs.Mesh.{Mesh, IsMesh, coordinate, edge_of}
+use Rattle.terrain_base.specs.FirstUse.{corners}
 use Rattle.mesh_codec.specs.Text.{index_width, index_data_at}
 use Rattle.mesh_codec.specs.Difference.{HasCodes, code_at}
 use Rattle.mesh_codec.specs.HighWater.{HasIndexes, HasEntries, entry_at, index_at}

@@ -17,7 +17,8 @@ ghost use Rattle.std.specs.Prelude.{
   IfOk,
 };
 ghost use Rattle.byteorder.specs.Endian.{little_bytes};
-ghost use Rattle.mesh_codec.specs.Mesh.{IsVertex, IsTriangle, IsEdge, IsMesh, IsEncodable, corners, coordinate};
+ghost use Rattle.mesh_codec.specs.Mesh.{IsVertex, IsTriangle, IsEdge, IsMesh, IsEncodable, coordinate};
+ghost use Rattle.terrain_base.specs.FirstUse.{corners};
 ghost use Rattle.mesh_codec.specs.Tile.{Decodes};
 ghost use Rattle.mesh_codec.specs.Text.{
   point_text,

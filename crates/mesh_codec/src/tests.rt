@@ -1,6 +1,7 @@
 // Tiles put together by hand, part by part, and what is read of them.
 ghost use Rattle.std.specs.Prelude.{◌≡◌, ℕ, ◌≤◌, ◌++◌, ◌∷◌, [], List, IsTrue, IfSome};
-ghost use Rattle.mesh_codec.specs.Mesh.{IsEncodable, IsNumbered};
+ghost use Rattle.mesh_codec.specs.Mesh.{IsEncodable};
+ghost use Rattle.terrain_base.specs.FirstUse.{IsByFirstUse};
 ghost use Rattle.mesh_codec.specs.Text.{mark_after};
 
 use crate::number::{put_double, put_long, put_short};
@@ -173,7 +174,7 @@ fn mark_over(mark: u32, index: u32) -> Option<u32>
 
 /// The mark behind a triangle, where its corners are within the marks.
 fn mark_behind(mark: u32, triangle: &Indexes) -> Option<u32>
-    ensures { IfSome result (λ next. (before : List ℕ) → IsNumbered mark before → IsNumbered next (((before ++ triangle.now.a ∷ []) ++ triangle.now.b ∷ []) ++ triangle.now.c ∷ [])) }
+    ensures { IfSome result (λ next. (before : List ℕ) → IsByFirstUse mark before → IsByFirstUse next (((before ++ triangle.now.a ∷ []) ++ triangle.now.b ∷ []) ++ triangle.now.c ∷ [])) }
 {
     let second = mark_over(mark, triangle.a)?;
     let third = mark_over(second, triangle.b)?;

@@ -9,3 +9,5 @@ pub mod FanLines
 pub mod Levels
 pub mod Nearby
 pub mod LeafTriangles
+pub mod Windows
+pub mod PointTests

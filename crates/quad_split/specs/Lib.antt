@@ -1,7 +1,7 @@
 pub mod Node
 pub mod Fan
 pub mod Fits
-pub mod Square
+pub mod Window
 pub mod Split
 pub mod SplitMap
 pub mod Midpoints

@@ -4,7 +4,7 @@ ghost use Rattle.std.specs.Prelude.{◌≡◌, ◌↔◌, ℕ, suc, ◌≤◌, I
 ghost use Rattle.quad_split.specs.Node.{IsNode, level_of, column_of, row_of};
 ghost use Rattle.quad_split.specs.Fits.{Fits, fits_at};
 
-use crate::fan::{Square, fan_follows, fan_of};
+use crate::fan::{fan_follows, fan_of};
 use crate::node::Node;
 use terrain_base::Grid;
 
@@ -21,11 +21,5 @@ pub fn fits(grid: &Grid, node: &Node, tol: u16) -> bool
     ensures meaning { (k : ℕ) → level_of node.now.side ≡ suc k →
         IsTrue result ↔ Fits grid.now tol k (column_of node.now) (row_of node.now) }
 {
-    let square = Square {
-        i: node.i,
-        j: node.j,
-        side: node.side,
-    };
-    let fan = fan_of(grid, node);
-    fan_follows(grid, tol, square, &fan)
+    fan_follows(grid, tol, &fan_of(node))
 }

@@ -7,6 +7,7 @@ mod fit;
 pub mod laws;
 mod node;
 mod splits;
+mod triangle;
 
 pub use fit::fits;
 pub use node::Node;

@@ -50,17 +50,18 @@ fn near_split(bits: &[bool], k: u8, x: u8, y: u8) -> bool
         || bit(bits, k, w + 1, s + 2)
 }
 
-/// Whether the node of the level after `k` is split.
+/// Whether the node of the level after `k` is split. The smaller nodes near it are looked at first, since a test
+/// of the node's own triangles costs much more.
 fn decide(grid: &Grid, tol: u16, k: u8, x: u8, y: u8, bits: &[bool]) -> bool
     requires room { length bits.now ≡ 6144 }
     requires level { k < 6 }
     requires place { is_node (suc k) x y ≡ true }
     ensures { result ≡ (not (fits_at grid.now tol (suc k) x y) || touching (bit_at bits.now k) x y) }
 {
-    if !fits(grid, &Node::at(k + 1, x, y), tol) {
+    if near_split(bits, k, x, y) {
         return true;
     }
-    near_split(bits, k, x, y)
+    !fits(grid, &Node::at(k + 1, x, y), tol)
 }
 
 /// Fills a row of the level after `k`.

@@ -17,7 +17,8 @@ use Rattle.mesh_plane.proofs.Edges.{Edge, Shows, chain}
 use Rattle.mesh_plane.proofs.Quads.{box, leaves_tile}
 use Rattle.mesh_plane.proofs.QuadHeights.{Even, leaves_even}
 use Rattle.mesh_plane.proofs.Scales.{placed}
-use Rattle.mesh_plane.proofs.Covers.{tile_at, covers_at_each_scale}
+use Rattle.mesh_plane.proofs.Covers.{covers_at_each_scale}
+use Rattle.mesh_plane.proofs.TileSquare.{tile_at}
 use Rattle.quad_split.specs.Split.{is_split}
 use Rattle.quad_split.specs.Midpoints.{is_south_broken, is_west_broken, midpoints_of}
 use Rattle.quad_split.proofs.Fairness.{Inside, split_is_fair}

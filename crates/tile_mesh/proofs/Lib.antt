@@ -24,6 +24,7 @@ pub mod Nearness
 pub mod Parents
 pub mod Placing
 pub mod Ranges
+pub mod Seams
 pub mod Steps
 pub mod StripRuns
 pub mod VertexHeights

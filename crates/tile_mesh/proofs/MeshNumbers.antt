@@ -1,20 +1,26 @@
 -- The numbers of a mesh.
 use Rattle.std.proofs.Common.{◌≡◌, ℕ, zero, suc, ◌+◌, ◌<◌, ◌≤◌, arith, Bool, true, false, cond, not, List, [], ◌∷◌, map, take, length, nat_lt, refl, ap, sym, ◌∙◌, subst, inl, inr, None, Some}
-use Rattle.std.specs.Prelude.{ℤ, ◌⊎◌, Option, All, Contains, slice_index, slice_index_or, filter_map, position}
+use Rattle.std.specs.Prelude.{ℤ, pos, ◌⊎◌, Option, All, Contains, slice_index, slice_index_or, filter_map, position}
 use Rattle.std.specs.List.{position_or_len, list_any, AllByRecursion, cons_option}
 use Rattle.std.proofs.lemmas.Bool.Decides.{nat_tests}
+use Rattle.std.proofs.lemmas.Int.{ints}
 use Rattle.std.proofs.lemmas.List.{get_or-map, get_or-take, get_or_past, length-map, length-take}
 use Rattle.std.proofs.lemmas.List.Elements.{Contains-get_or}
 use Rattle.mesh_plane.specs.Triangles.{Triple}
+use Rattle.mesh_plane.specs.Plane.{IsTilePoint}
 use Rattle.mesh_plane.proofs.ListWords.{all_from}
+use Rattle.mesh_plane.proofs.Scales.{placed}
 use Rattle.quad_split.specs.Split.{is_split}
+use Rattle.terrain_base.specs.FirstUse as indexes
+use Rattle.terrain_base.specs.FirstUse.{IsByFirstUse}
 use Rattle.terrain_base.specs.Grid.{tolerance_of}
 use Rattle.tile_mesh.specs.declared.side.Side.{Side}
 use Rattle.tile_mesh.specs.declared.side.Side.TheVariants.{West, South, East, North}
 use Rattle.tile_mesh.specs.declared.point.GridPoint.{GridPoint}
 use Rattle.tile_mesh.specs.declared.point.MeshPoint.{MeshPoint}
+use Rattle.tile_mesh.specs.Kept.{RisesTo66}
 use Rattle.tile_mesh.specs.Mesh.{vertex_at, edge_of, edge_points, edge_numbers, edge_heights, kept_on, mesh_from, mesh_of_grid}
-use Rattle.tile_mesh.specs.MeshNumbers.{IsVertexOnGrid, IsByFirstUse, IsNumbered, numbers_in}
+use Rattle.tile_mesh.specs.MeshNumbers.{IsVertexOnGrid, IsNumbered}
 use Rattle.tile_mesh.specs.Numbering.{first_use, ArePoints}
 use Rattle.tile_mesh.specs.Numbers.{IsOnGrid, point_eq, first_uses, corners, numbered}
 use Rattle.tile_mesh.specs.Rule.{triangles_of}
@@ -22,7 +28,9 @@ use Rattle.tile_mesh.specs.Sides.{grid_point}
 use Rattle.tile_mesh.proofs.Counts.{few}
 use Rattle.tile_mesh.proofs.EdgePoints.{corner_on_grid}
 use Rattle.tile_mesh.proofs.FirstUses.{point_itself, any_to, first_any, place_below, named_is, numbering_law, distinct_firsts}
+use Rattle.tile_mesh.proofs.Framing.{triangles_cover}
 use Rattle.tile_mesh.proofs.KeptLists.{kept_to_66}
+use Rattle.tile_mesh.proofs.Placing as placing
 
 -- ---- places in a list
 first_place : (ps : List GridPoint) (k : ℕ) (d : GridPoint) → k < length ps
@@ -45,7 +53,7 @@ abbrev place_in : List GridPoint → GridPoint → ℕ
 place_in ks p = position_or_len (point_eq p) ks
 
 numbers_are : (ks : List GridPoint) (ts : List (Triple GridPoint))
-    → numbers_in (map (numbered ks) ts) ≡ map (place_in ks) (corners ts)
+    → indexes.corners (map (numbered ks) ts) ≡ map (place_in ks) (corners ts)
 numbers_are ks [] = refl
 numbers_are ks (t ∷ ts) = rw (numbers_are ks ts) refl
 
@@ -180,6 +188,7 @@ edge_short ks side = at_most (λ p. position (point_eq p) ks) (edge_points side)
 
 -- ---- the mesh of triangles whose corners lie on the grid
 module _ (grid : List ℤ) (ts : List (Triple GridPoint))
+    (some_triangle : 0 < length ts)
     (on_grid : (p : GridPoint) → list_any (point_eq p) (corners ts) ≡ true → IsOnGrid p) where
   first_on_grid : (p : GridPoint) → list_any (point_eq p) (firsts ts) ≡ true → IsOnGrid p
   first_on_grid p e = on_grid p (sym (first_any p (corners ts)) ∙ e)
@@ -201,6 +210,12 @@ module _ (grid : List ℤ) (ts : List (Triple GridPoint))
       few (firsts ts) (distinct_firsts (corners ts))
       (λ p e. let h = first_on_grid p e in (h.column, h.row))
 
+  some_vertex : 0 < length (firsts ts)
+  some_vertex =
+      let is = (numbering_law ts).within 0 (record { a = 0; b = 0; c = 0 })
+      (omega (arith, some_triangle, length-map ts (numbered (firsts ts)))) in
+      omega (arith, is.a)
+
   edges_within : (side : Side) → All (λ n. n < length (firsts ts)) (edge_of (mesh_from grid ts) side)
   edges_within West = edge_within (firsts ts) West
   edges_within South = edge_within (firsts ts) South
@@ -216,6 +231,7 @@ module _ (grid : List ℤ) (ts : List (Triple GridPoint))
   is_numbered : IsNumbered (mesh_from grid ts)
   is_numbered = record {
     on_grid = vertices_on_grid;
+    some = omega (arith, some_vertex, count);
     few = omega (arith, few_vertices, count);
     triangles =
         subst (λ (n : ℕ). All (ArePoints n) (map (numbered (firsts ts)) ts)) (sym count) (numbering_law ts).within;
@@ -223,14 +239,32 @@ module _ (grid : List ℤ) (ts : List (Triple GridPoint))
         subst (λ (n : ℕ). All (λ m. m < n) (edge_of (mesh_from grid ts) side)) (sym count) (edges_within side);
     short = edges_short;
     by_first_use =
-        subst (λ (n : ℕ). IsByFirstUse n (numbers_in (map (numbered (firsts ts)) ts))) (sym count)
+        subst (λ (n : ℕ). IsByFirstUse n (indexes.corners (map (numbered (firsts ts)) ts))) (sym count)
         (subst (λ (ns : List ℕ). IsByFirstUse (length (firsts ts)) ns) (sym (numbers_are (firsts ts) ts))
         (by_first_use ts));
   }
 
+-- ---- the mesh of a grid
+south_west : IsTilePoint (pos 1) (pos 0) (pos 0)
+south_west = record {
+  west = omega (arith, ints);
+  east = omega (arith, ints);
+  south = omega (arith, ints);
+  north = omega (arith, ints);
+}
+
+-- a triangle holds the south-west corner
+some_triangle : (grid : List ℤ) (tol : ℕ) (kept : Side → List ℕ) → ((side : Side) → RisesTo66 (kept side))
+    → 0 < length (triangles_of (is_split grid tol) kept)
+some_triangle grid tol kept rises =
+    let ts = triangles_of (is_split grid tol) kept in
+    let held = (triangles_cover grid tol kept rises).full (pos 1) (pos 0) (pos 0) (omega (arith, ints)) south_west in
+    omega (arith, held.1.1.0, length-map ts (placed placing.place (placing.height grid)))
+
 pub numbered_law : (grid : List ℤ) (z : ℕ) → IsNumbered (mesh_of_grid grid z)
 unfolding mesh_of_grid
 numbered_law grid z =
-    let tol = tolerance_of z in
-    is_numbered grid (triangles_of (is_split grid tol) (kept_on grid tol))
-    (corner_on_grid grid tol (kept_on grid tol) (λ side. kept_to_66 (edge_heights grid side) tol))
+    let tol = tolerance_of z in let kept = kept_on grid tol in
+    let rises = λ (side : Side). kept_to_66 (edge_heights grid side) tol in
+    is_numbered grid (triangles_of (is_split grid tol) kept) (some_triangle grid tol kept rises)
+    (corner_on_grid grid tol kept rises)

@@ -14,3 +14,4 @@ pub mod Numbering
 pub mod Plane
 pub mod Squares
 pub mod Tolerance
+pub mod Seams

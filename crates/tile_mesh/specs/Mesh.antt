@@ -1,7 +1,7 @@
 -- The mesh of triangles over grid points.
-use Rattle.std.specs.Prelude.{ℕ, ℤ, List, [], map, filter_map, position}
+use Rattle.std.specs.Prelude.{◌≡◌, ℕ, ℤ, List, [], map, filter_map, position}
 use Rattle.std.specs.List.{range_with_len}
-use Rattle.terrain_base.specs.Grid.{height_in, tolerance_of}
+use Rattle.terrain_base.specs.Grid.{IsGrid, height_in, tolerance_of}
 use Rattle.terrain_base.specs.declared.indexes.Indexes.{Indexes}
 use Rattle.mesh_plane.specs.Triangles.{Triple}
 use Rattle.edge_decimate.specs.KeptPoints.{kept_points}
@@ -70,3 +70,9 @@ kept_on grid tol side = kept_points (edge_heights grid side) tol
 unfoldable pub mesh_of_grid : List ℤ → ℕ → Mesh
 mesh_of_grid grid z =
     let tol = tolerance_of z in mesh_from grid (triangles_of (is_split grid tol) (kept_on grid tol))
+
+-- the mesh is that of some grid with heights in range, at this level
+pub record IsMeshAt (z : ℕ) (m : Mesh) : Type 0 where
+  pub grid : List ℤ
+  pub in_range : IsGrid grid
+  pub mesh : m ≡ mesh_of_grid grid z

@@ -1,10 +1,11 @@
 -- The numbers of vertices in the mesh of each grid.
-use Rattle.std.specs.Prelude.{◌≡◌, ℕ, ◌<◌, ◌≤◌, ℤ, List, [], ◌∷◌, length, take, flat_map, slice_index, All, Contains}
+use Rattle.std.specs.Prelude.{◌≡◌, ℕ, ◌<◌, ◌≤◌, ℤ, List, length, All}
 use Rattle.terrain_base.specs.Grid.{height_in}
-use Rattle.terrain_base.specs.declared.indexes.Indexes.{Indexes}
+use Rattle.terrain_base.specs.Height.{IsHeight}
+use Rattle.terrain_base.specs.FirstUse.{IsByFirstUse, corners}
 use Rattle.tile_mesh.specs.declared.side.Side.{Side}
 use Rattle.tile_mesh.specs.declared.point.MeshPoint.{MeshPoint}
-use Rattle.tile_mesh.specs.Mesh.{Mesh, edge_of, mesh_of_grid}
+use Rattle.tile_mesh.specs.Mesh.{Mesh, edge_of, mesh_of_grid, IsMeshAt}
 use Rattle.tile_mesh.specs.Numbering.{ArePoints}
 
 -- a vertex lies on the grid
@@ -12,29 +13,16 @@ pub record IsVertexOnGrid (p : MeshPoint) : Type 0 where
   pub column : p.i ≤ 66
   pub row : p.j ≤ 66
 
--- the numbers of a triangle's vertices, and those of all triangles, in their order (quantized-mesh-1.0,
--- IndexData)
-abbrev pub numbers_of : Indexes → List ℕ
-numbers_of t = t.a ∷ t.b ∷ t.c ∷ []
-
-abbrev pub numbers_in : List Indexes → List ℕ
-numbers_in triangles = flat_map numbers_of triangles
-
--- numbers, of so many, stand in a list by first use: where one stands each lower one stood before it, and
--- each stands there
-pub record IsByFirstUse (count : ℕ) (numbers : List ℕ) : Type 0 where
-  pub in_order : (place lower : ℕ) → lower < slice_index numbers place → Contains (take place numbers) lower
-  pub used : (number : ℕ) → number < count → Contains numbers number
-
--- at most 4489 vertices, all on the grid; numbers in triangles and in the edges' lists are of vertices; and
+-- from 1 to 4489 vertices, all on the grid; numbers in triangles and in the edges' lists are of vertices; and
 -- the vertices are numbered by first use in the triangles
 pub record IsNumbered (mesh : Mesh) : Type 0 where
   pub on_grid : All IsVertexOnGrid mesh.points
+  pub some : 0 < length mesh.points
   pub few : length mesh.points ≤ 4489
   pub triangles : All (ArePoints (length mesh.points)) mesh.triangles
   pub edges : (side : Side) → All (λ n. n < length mesh.points) (edge_of mesh side)
   pub short : (side : Side) → length (edge_of mesh side) ≤ 67
-  pub by_first_use : IsByFirstUse (length mesh.points) (numbers_in mesh.triangles)
+  pub by_first_use : IsByFirstUse (length mesh.points) (corners mesh.triangles)
 
 abbrev pub NumberedLaw : Type 0
 NumberedLaw = (grid : List ℤ) (z : ℕ) → IsNumbered (mesh_of_grid grid z)
@@ -46,3 +34,7 @@ FewTrianglesLaw = (grid : List ℤ) (z : ℕ) → length (mesh_of_grid grid z).t
 -- each vertex has the height of its grid point
 abbrev pub VertexHeightLaw : Type 0
 VertexHeightLaw = (grid : List ℤ) (z : ℕ) → All (λ p. p.metres ≡ height_in grid p.i p.j) (mesh_of_grid grid z).points
+
+-- so it is in the range of heights, where the mesh is that of a grid in range
+abbrev pub HeightRangeLaw : Type 0
+HeightRangeLaw = (z : ℕ) (mesh : Mesh) → IsMeshAt z mesh → All (λ p. IsHeight p.metres) mesh.points

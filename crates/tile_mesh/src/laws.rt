@@ -5,8 +5,9 @@ ghost use Rattle.tile_mesh.specs.InnerPoints.{InnerLaw};
 ghost use Rattle.tile_mesh.specs.Laws.{CoverLaw, EdgeLaw, ToleranceLaw};
 ghost use Rattle.tile_mesh.specs.LeafTriangles.{LeafLaw};
 ghost use Rattle.tile_mesh.specs.Merging.{MergeLaw};
-ghost use Rattle.tile_mesh.specs.MeshNumbers.{NumberedLaw, FewTrianglesLaw, VertexHeightLaw};
+ghost use Rattle.tile_mesh.specs.MeshNumbers.{NumberedLaw, FewTrianglesLaw, VertexHeightLaw, HeightRangeLaw};
 ghost use Rattle.tile_mesh.specs.Numbering.{NumberingLaw};
+ghost use Rattle.tile_mesh.specs.Seams.{SeamLaw};
 
 /// The triangles of a mesh are counter-clockwise and cover the tile once, with one height at each rational
 /// point.
@@ -25,7 +26,7 @@ pub fn tolerance()
     ensures { ToleranceLaw }
 {}
 
-/// A mesh has at most 4489 vertices, whose columns and rows are from 0 to 66. All numbers in its triangles
+/// A mesh has from 1 to 4489 vertices, whose columns and rows are from 0 to 66. All numbers in its triangles
 /// and in its edges' lists, of at most 67 numbers each, are those of vertices. Where a number stands in the
 /// triangles each lower one stood before it, and each vertex is used.
 pub fn numbered()
@@ -64,4 +65,15 @@ pub fn few_triangles()
 /// Each vertex of a mesh has the height of its grid point.
 pub fn vertex_heights()
     ensures { VertexHeightLaw }
+{}
+
+/// The heights of vertices are from -16000 to 16000 m, where the mesh is that of a grid in range.
+pub fn heights_in_range()
+    ensures { HeightRangeLaw }
+{}
+
+/// Where two grids have the same heights along a side of each, the edges of their meshes at a level have vertices
+/// at the same places and heights: tiles side by side meet.
+pub fn seams()
+    ensures { SeamLaw }
 {}

@@ -1,5 +1,5 @@
 use Rattle.std.proofs.Common.{◌≡◌, ◌≤◌, ◌++◌, drop}
-use Rattle.mesh_codec.specs.Mesh.{corners}
+use Rattle.terrain_base.specs.FirstUse.{corners}
 use Rattle.mesh_codec.specs.Text.{AreWithinMark, index_width, indexes_text}
 use Rattle.mesh_codec.proofs.encoding.put_triangles.Given as goal
 

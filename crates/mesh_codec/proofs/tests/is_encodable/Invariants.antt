@@ -1,6 +1,6 @@
 use Rattle.std.proofs.Common.{take}
-use Rattle.mesh_codec.specs.Mesh.{corners, IsNumbered}
+use Rattle.terrain_base.specs.FirstUse.{IsByFirstUse, corners}
 use Rattle.mesh_codec.proofs.tests.is_encodable.Given as goal
 
 abbrev pub invariant-loop-triangle : goal.invariant-loop-triangle
-invariant-loop-triangle l = IsNumbered l.mark (corners (take l.triangle-index l.triangle-items))
+invariant-loop-triangle l = IsByFirstUse l.mark (corners (take l.triangle-index l.triangle-items))

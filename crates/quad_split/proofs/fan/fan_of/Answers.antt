@@ -12,10 +12,4 @@ returns c =
     let side = c.requires.node.side ∙ ap (λ (n : ℕ). 2 ^ n) l in
     let i = c.requires.node.column ∙ ap (λ (n : ℕ). line_of n (column_of node)) l in
     let j = c.requires.node.row ∙ ap (λ (n : ℕ). line_of n (row_of node)) l in
-    fan_is c.args.grid.now (level_of node.side - 1) (column_of node) (row_of node) node.i node.j node.side
-    c.corner-centre.result c.corner-south_west.result c.corner-south_east.result c.corner-north_east.result
-    c.corner-north_west.result
-    c.corner.result c.corner-2.result c.corner-3.result c.corner-4.result side i j
-    c.corner-centre.ensures c.corner-south_west.ensures c.corner-south_east.ensures
-    c.corner-north_east.ensures c.corner-north_west.ensures
-    c.corner.ensures c.corner-2.ensures c.corner-3.ensures c.corner-4.ensures
+    fan_is (level_of node.side - 1) (column_of node) (row_of node) node.i node.j node.side side i j

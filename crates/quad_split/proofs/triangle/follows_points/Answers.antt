@@ -1,6 +1,6 @@
 use Rattle.std.proofs.Common.{◌∙◌, sym, ◌+◌}
 use Rattle.quad_split.proofs.Rows.{row_step}
-use Rattle.quad_split.proofs.fan.follows_points.Goals as goal
+use Rattle.quad_split.proofs.triangle.follows_points.Goals as goal
 
 pub loop-k-preserved : goal.loop-k-preserved
 loop-k-preserved c =

@@ -1,6 +1,6 @@
 use Rattle.std.proofs.Common.{◌≡◌, ◌+◌, ◌-◌}
 use Rattle.quad_split.specs.Fits.{follows_row}
-use Rattle.quad_split.proofs.fan.follows_points.Given as goal
+use Rattle.quad_split.proofs.triangle.follows_points.Given as goal
 
 abbrev pub invariant-loop-k : goal.invariant-loop-k
 invariant-loop-k l =
