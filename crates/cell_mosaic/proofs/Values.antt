@@ -108,6 +108,19 @@ module _ (told : Cells) (shapes : Shapes) (square : Square) (place : Place) (are
   void_here level value next is void same =
       ap (value_from told square place) same ∙ sym (coarser_on level) ∙ (rw (sym is ∙ void) refl)
 
+  -- the value from the next coarser level on is that in the coarser levels
+  pub from_coarser : (level : CellLevel) (next : Option CellLevel) → next ≡ coarser_of shapes (key_at square level)
+      → value_from told square place next ≡ value_in_levels told square place (coarser_levels level)
+  from_coarser level next is = ap (value_from told square place) is ∙ sym (coarser_on level)
+
+  -- where the finest cell has a void the value in the square is that in the coarser levels
+  pub void_finest : (level : CellLevel) (value : Post) → Some level ≡ finest_of shapes square → value ≡ value_in_key told (key_at square level) place → value ≡ Void
+      → value_in_levels told square place (coarser_levels level) ≡ value_at told square place
+  void_finest level value finest is void =
+      sym (from_coarser level (coarser_of shapes (key_at square level)) refl)
+      ∙ void_here level value (coarser_of shapes (key_at square level)) is void refl
+      ∙ from_finest (Some level) finest
+
   only_zero : (here : Bool) (level : CellLevel) → cond here (Some Zero) None ≡ Some level → level ≡ Zero
   only_zero true level is = cc
   only_zero false level is = absurd (cc)

@@ -1,5 +1,5 @@
 -- What a call on a source of posts leaves of it and of the store that it is lent, and what its faults show.
-use Rattle.std.specs.Prelude.{◌≡◌, ◌≢◌, ℕ, ◌≤◌, Bool, List, Option, Some, None, Result, IfOk, IfErr, IfSome, IsErrOf, true}
+use Rattle.std.specs.Prelude.{◌≡◌, ◌≢◌, ℕ, ◌≤◌, Bool, List, Option, Some, None, Result, IfOk, IfErr, IfSome, IsErrOf, IsOk, IsTrue, OnOk, true}
 use Rattle.std.specs.FinMap.{get}
 use Rattle.terrain_base.specs.declared.name.Key.TheVariants.{Cell as CellName}
 use Rattle.std.specs.FinSet.{contains}
@@ -68,6 +68,30 @@ pub record Keeps {P : Type 0} (cells : P → Option Files → Option Cells) (sha
   pub stays : (told : Cells) → cells source files ≡ Some told → cells source' files ≡ Some told
   pub held : files' ≡ files
   pub logged : log' ≡ log
+
+-- the fault is trouble with a cell
+abbrev pub IsTrouble : SourceFault → Type 0
+IsTrouble Failed = ⊥
+IsTrouble NoMemory = ⊥
+IsTrouble (Cell trouble) = Unit {0}
+
+-- trouble that is answered spoils the source for good, and an Ok leaves it as it was: so a caller that has met trouble
+-- cannot answer Ok
+pub record Marks {T : Type 0} (before now : Bool) (result : Result T SourceFault) : Type 0 where
+  pub unspoilt : OnOk result (now ≡ before)
+  pub troubled : IfErr result (λ fault. IsTrouble fault → now ≡ true)
+
+-- What a call on a source leaves of it and of the store that it is lent, and what its answer shows. A sure source answers
+-- Ok; trouble with a cell is shown, 'Failed' has a cause; nothing that can be seen is changed; and trouble is not passed
+-- over. The first seven are the meanings of the source and of the store.
+pub record Leaves {P S T : Type 0} (cells : P → Option Files → Option Cells) (shapes : P → Shapes) (is_sure is_spoilt : P → Bool)
+    (holds : S → Option Files) (log : S → Option (List Change)) (faults : S → ℕ)
+    (source source' : P) (store store' : S) (result : Result T SourceFault) : Type 0 where
+  pub sure : IsTrue (is_sure source) → IsOk result
+  pub shown : TroubleIsShown (shapes source) (holds store) (cells source (holds store)) result
+  pub cause : FaultHasCause (faults store) (faults store') result
+  pub keeps : Keeps cells shapes is_sure source source' (holds store) (holds store') (log store) (log store')
+  pub spoilt : Marks (is_spoilt source) (is_spoilt source') result
 
 -- two stores hold the same under the name of each cell of the shapes, as far as they tell it
 abbrev pub AlikeCells : Shapes → Option Files → Option Files → Type 0

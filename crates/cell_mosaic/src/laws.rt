@@ -1,6 +1,6 @@
 //! What the definitions of candidates and values say, in the words of the subject. Each function does nothing: its
 //! contract is a law.
-ghost use Rattle.std.specs.Prelude.{◌≡◌, true, IsSome, Option};
+ghost use Rattle.std.specs.Prelude.{◌≡◌, true, false, IsSome, Option};
 ghost use Rattle.terrain_base.specs.Step.{Files};
 ghost use Rattle.cell_mosaic.specs.declared.whole.WholeCells as whole;
 ghost use Rattle.cell_mosaic.specs.BlendLaws.{FirstIsHeaviest, WeightsMakeTheUnit, RoundsHalfUp};
@@ -32,10 +32,12 @@ pub fn values_are_posts()
     ensures { ValuesArePosts }
 {}
 
-/// Cells in memory are sure and told, and told alike whatever store is lent.
+/// Cells in memory are sure, never spoilt and told, and told alike whatever store is lent.
 pub fn whole_cells_are_sure()
     ensures sure { (source : whole.WholeCells) →
         ⟦<crate::WholeCells as crate::PostSource>⟧.sure source ≡ true }
+    ensures unspoilt { (source : whole.WholeCells) →
+        ⟦<crate::WholeCells as crate::PostSource>⟧.spoilt source ≡ false }
     ensures told { (source : whole.WholeCells) (files : Option Files) →
         IsSome (⟦<crate::WholeCells as crate::PostSource>⟧.cells source files) }
     ensures alike { (source : whole.WholeCells) (files files' : Option Files) →

@@ -21,5 +21,5 @@ pub use fault::SourceFault;
 pub use quad::Quad;
 pub use source::PostSource;
 pub use squares::SquareList;
-pub use value::{cell_value, posts_round};
+pub use value::{cell_value, coarser_value, posts_round};
 pub use whole::{NoRoom, WholeCells};

@@ -1,8 +1,8 @@
 // A source of posts.
-ghost use Rattle.std.specs.Prelude.{◌≡◌, Bool, Option, Some, IfOk, IsTrue, IsOk};
+ghost use Rattle.std.specs.Prelude.{◌≡◌, Bool, Option, Some, IfOk};
 ghost use Rattle.terrain_base.specs.Step.{Files};
 ghost use Rattle.cell_mosaic.specs.Cells.{Cells, Shapes, AreCells, HasPost, IsPost, post_at, finest_of, coarser_of};
-ghost use Rattle.cell_mosaic.specs.Source.{GivesTold, FaultHasCause, TroubleIsShown, Keeps, AlikeCells};
+ghost use Rattle.cell_mosaic.specs.Source.{GivesTold, Leaves, AlikeCells};
 
 use crate::SourceFault;
 use terrain_base::{CellKey, CellLevel, Post, Square, Store};
@@ -18,6 +18,9 @@ pub trait PostSource {
     /// Whether a post always comes.
     ghost sure: { Self → Bool };
 
+    /// Whether trouble with a cell was answered. A caller that met it cannot answer Ok, since that leaves it as it was.
+    ghost spoilt: { Self → Bool };
+
     /// The finest level of the square's cells. `None` exactly where the square has none.
     fn shape(&self, square: Square) -> Option<CellLevel>
         ensures { result ≡ finest_of (shapes self.now) square };
@@ -28,8 +31,9 @@ pub trait PostSource {
 
     /// The post in a column from the west and a row from the south of the key's cell: void, or metres within
     /// -16000 to 16000. A sure source always answers Ok. `Failed` is answered only where the store's count of faults
-    /// rose, and `Cell` only where the store's files, if they are told, show it, and never where the cells are told.
-    /// Changes nothing that the store holds and adds nothing to its log, whatever it answers.
+    /// rose, and `Cell` only where the store's files, if they are told, show it, and never where the cells are told;
+    /// it spoils the source, which an Ok does not. Changes nothing that the store holds and adds nothing to its log,
+    /// whatever it answers.
     fn post<S: Store>(
         &mut self,
         store: &mut S,
@@ -41,12 +45,8 @@ pub trait PostSource {
         ensures value { GivesTold (cells self.old (S.holds store.old))
             (λ told. post_at told key col row) result }
         ensures height { IfOk result IsPost }
-        ensures sure { IsTrue (sure self.old) → IsOk result }
-        ensures shown { TroubleIsShown (shapes self.old) (S.holds store.old)
-            (cells self.old (S.holds store.old)) result }
-        ensures cause { FaultHasCause (S.faults store.old) (S.faults store.new) result }
-        ensures keeps { Keeps cells shapes sure self.old self.new
-            (S.holds store.old) (S.holds store.new) (S.log store.old) (S.log store.new) };
+        ensures leaves { Leaves cells shapes sure spoilt S.holds S.log S.faults
+            self.old self.new store.old store.new result };
 
     /// Told cells are cells of their keys, and these are those of the shapes.
     ghost agree: { (source : Self) (files : Option Files) (told : Cells) →

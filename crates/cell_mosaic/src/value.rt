@@ -1,12 +1,12 @@
 // The value at a place in a cell, and in the cells of a square.
-ghost use Rattle.std.specs.Prelude.{◌≡◌, true, ◌+◌, ◌-◌, ◌*◌, ◌/◌, ◌%◌, ◌^◌, ◌<◌, ◌≤◌, ◌==◌, IsSome, IsFalse, IfOk, IsTrue, IsOk};
+ghost use Rattle.std.specs.Prelude.{◌≡◌, true, ◌+◌, ◌-◌, ◌*◌, ◌/◌, ◌%◌, ◌^◌, ◌<◌, ◌≤◌, ◌==◌, IsSome, IsFalse, IfOk};
 ghost use Rattle.std.specs.FinSet as set;
 ghost use Rattle.terrain_base.specs.Level.{rows_of, columns_of};
 ghost use Rattle.tms_tree.specs.Degrees.{Holds, square_rectangle};
 ghost use Rattle.tms_tree.specs.Place.{IsPlace, point_of};
-ghost use Rattle.cell_mosaic.specs.Cells.{HasPost, IsPost, post_at, finest_of};
-ghost use Rattle.cell_mosaic.specs.Source.{GivesTold, FaultHasCause, TroubleIsShown, Keeps};
-ghost use Rattle.cell_mosaic.specs.Value.{east_of, north_of, unless_ignored, quad_round, ArePosts, value_in_key, value_at};
+ghost use Rattle.cell_mosaic.specs.Cells.{HasPost, IsPost, post_at, finest_of, coarser_levels};
+ghost use Rattle.cell_mosaic.specs.Source.{GivesTold, Leaves};
+ghost use Rattle.cell_mosaic.specs.Value.{east_of, north_of, unless_ignored, quad_round, ArePosts, value_in_key, value_in_levels, value_at};
 
 use crate::{PostSource, Quad, SourceFault, blend};
 use terrain_base::{CellKey, Post, Square, Store, columns, rows};
@@ -61,12 +61,8 @@ fn post_unless<P: PostSource, S: Store>(
     ensures value { GivesTold (P.cells src.old (S.holds store.old))
         (λ told. unless_ignored is_ignored (post_at told key col row)) result }
     ensures height { IfOk result IsPost }
-    ensures sure { IsTrue (P.sure src.old) → IsOk result }
-    ensures shown { TroubleIsShown (P.shapes src.old) (S.holds store.old)
-        (P.cells src.old (S.holds store.old)) result }
-    ensures cause { FaultHasCause (S.faults store.old) (S.faults store.new) result }
-    ensures keeps { Keeps P.cells P.shapes P.sure src.old src.new
-        (S.holds store.old) (S.holds store.new) (S.log store.old) (S.log store.new) }
+    ensures leaves { Leaves P.cells P.shapes P.sure P.spoilt S.holds S.log S.faults
+        src.old src.new store.old store.new result }
 {
     if is_ignored {
         return Ok(Post::Void);
@@ -93,12 +89,8 @@ pub fn posts_round<P: PostSource, S: Store>(
     ensures value { GivesTold (P.cells src.old (S.holds store.old))
         (λ told. quad_round (post_at told key) col row on_column on_row) result }
     ensures height { IfOk result ArePosts }
-    ensures sure { IsTrue (P.sure src.old) → IsOk result }
-    ensures shown { TroubleIsShown (P.shapes src.old) (S.holds store.old)
-        (P.cells src.old (S.holds store.old)) result }
-    ensures cause { FaultHasCause (S.faults store.old) (S.faults store.new) result }
-    ensures keeps { Keeps P.cells P.shapes P.sure src.old src.new
-        (S.holds store.old) (S.holds store.new) (S.log store.old) (S.log store.new) }
+    ensures leaves { Leaves P.cells P.shapes P.sure P.spoilt S.holds S.log S.faults
+        src.old src.new store.old store.new result }
 {
     let sw = src.post(store, key, col, row)?;
     let se = post_unless(on_column, src, store, key, col + 1, row)?;
@@ -120,52 +112,40 @@ fn value_in_cell<P: PostSource, S: Store>(
     ensures value { GivesTold (P.cells src.old (S.holds store.old))
         (λ told. value_in_key told key place) result }
     ensures height { IfOk result IsPost }
-    ensures sure { IsTrue (P.sure src.old) → IsOk result }
-    ensures shown { TroubleIsShown (P.shapes src.old) (S.holds store.old)
-        (P.cells src.old (S.holds store.old)) result }
-    ensures cause { FaultHasCause (S.faults store.old) (S.faults store.new) result }
-    ensures keeps { Keeps P.cells P.shapes P.sure src.old src.new
-        (S.holds store.old) (S.holds store.new) (S.log store.old) (S.log store.new) }
+    ensures leaves { Leaves P.cells P.shapes P.sure P.spoilt S.holds S.log S.faults
+        src.old src.new store.old store.new result }
 {
-    let (col, east) = step(east(key.square, place), columns(key.square, key.level), place.d);
+    let (col, east) = step(
+        east(key.square, place),
+        columns(key.square, key.level),
+        place.d,
+    );
     let (row, north) = step(north(key.square, place), rows(key.level), place.d);
     let quad = posts_round(src, store, key, col, row, east == 0, north == 0)?;
     let unit = place.d as u128;
     Ok(blend(&quad, east as u128, unit, north as u128, unit))
 }
 
-/// The value at the place in the square: the first that is not void in its cells, the finest first. It is void, or
-/// metres within -16000 to 16000. The square has a cell and its closed rectangle holds the place. Faults have the
-/// causes that a post's have.
-pub fn cell_value<P: PostSource, S: Store>(
+/// The value at the place in the cells of the key's square that are coarser than the key's: the first that is not
+/// void, level 1 before level 0, and void where there is none. The square's closed rectangle holds the place. Answers
+/// and changes are those of `PostSource::post`.
+pub fn coarser_value<P: PostSource, S: Store>(
     src: &mut P,
     store: &mut S,
-    square: Square,
+    key: CellKey,
     place: Place,
 ) -> Result<Post, SourceFault>
     requires place { IsPlace place }
-    requires known { IsSome (finest_of (P.shapes src.old) square) }
-    requires holds { Holds (square_rectangle square) (point_of place) }
+    requires holds { Holds (square_rectangle key.square) (point_of place) }
     ensures value { GivesTold (P.cells src.old (S.holds store.old))
-        (λ told. value_at told square place) result }
+        (λ told. value_in_levels told key.square place (coarser_levels key.level)) result }
     ensures height { IfOk result IsPost }
-    ensures sure { IsTrue (P.sure src.old) → IsOk result }
-    ensures shown { TroubleIsShown (P.shapes src.old) (S.holds store.old)
-        (P.cells src.old (S.holds store.old)) result }
-    ensures cause { FaultHasCause (S.faults store.old) (S.faults store.new) result }
-    ensures keeps { Keeps P.cells P.shapes P.sure src.old src.new
-        (S.holds store.old) (S.holds store.new) (S.log store.old) (S.log store.new) }
+    ensures leaves { Leaves P.cells P.shapes P.sure P.spoilt S.holds S.log S.faults
+        src.old src.new store.old store.new result }
 {
-    let Some(level) = src.shape(square) else {
-        unreachable!()
-    };
-    let finest = CellKey { square, level };
-    let value = value_in_cell(src, store, finest, place)?;
-    if let Post::Metres(_) = value {
-        return Ok(value);
-    }
-    let Some(second) = src.coarser(finest) else {
-        return Ok(value);
+    let square = key.square;
+    let Some(second) = src.coarser(key) else {
+        return Ok(Post::Void);
     };
     let middle = CellKey {
         square,
@@ -183,4 +163,33 @@ pub fn cell_value<P: PostSource, S: Store>(
         level: third,
     };
     value_in_cell(src, store, coarsest, place)
+}
+
+/// The value at the place in the square: the first that is not void in its cells, the finest first. It is void, or
+/// metres within -16000 to 16000. The square has a cell and its closed rectangle holds the place. Faults have the
+/// causes that a post's have.
+pub fn cell_value<P: PostSource, S: Store>(
+    src: &mut P,
+    store: &mut S,
+    square: Square,
+    place: Place,
+) -> Result<Post, SourceFault>
+    requires place { IsPlace place }
+    requires known { IsSome (finest_of (P.shapes src.old) square) }
+    requires holds { Holds (square_rectangle square) (point_of place) }
+    ensures value { GivesTold (P.cells src.old (S.holds store.old))
+        (λ told. value_at told square place) result }
+    ensures height { IfOk result IsPost }
+    ensures leaves { Leaves P.cells P.shapes P.sure P.spoilt S.holds S.log S.faults
+        src.old src.new store.old store.new result }
+{
+    let Some(level) = src.shape(square) else {
+        unreachable!()
+    };
+    let finest = CellKey { square, level };
+    let value = value_in_cell(src, store, finest, place)?;
+    if let Post::Metres(_) = value {
+        return Ok(value);
+    }
+    coarser_value(src, store, finest, place)
 }

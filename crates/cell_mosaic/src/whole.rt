@@ -132,7 +132,7 @@ impl WholeCells {
 }
 
 impl PostSource for WholeCells {
-    ghost use Rattle.std.specs.Prelude.{true, refl, Some, IfOk, IsOk};
+    ghost use Rattle.std.specs.Prelude.{true, false, refl, Some, IfOk, IsOk};
     ghost use Rattle.cell_mosaic.specs.Cells.{HasPost, post_at};
     ghost use Rattle.cell_mosaic.specs.Source.{GivesTold};
     ghost use Rattle.cell_mosaic.specs.Whole.{cells_of, shapes_of};
@@ -143,6 +143,8 @@ impl PostSource for WholeCells {
     ghost shapes = { λ source. shapes_of source.cells.entries };
 
     ghost sure = { λ source. true };
+
+    ghost spoilt = { λ source. false };
 
     ghost agree = { λ source files told is. whole_agrees source.cells.entries told source.good is };
 

@@ -1,3 +1,5 @@
+pub mod Blocks
+pub mod Fills
 pub mod Firsts
 pub mod Grids
 pub mod Lines

@@ -1,5 +1,5 @@
 -- The value at a place by the grid lines through it.
-use Rattle.std.proofs.Common.{◌≡◌, ℕ, ◌+◌, ◌-◌, ◌*◌, ◌/◌, ◌%◌, ◌^◌, ◌<◌, ◌≤◌, ◌==◌, ℤ, true, false, List, [], ◌∷◌, length, get_or, set, min, Some, ◌≢◌, ◌⊎◌, inl, inr, refl, sym, ap, ◌∙◌, subst, arith, get_or-set_other, get_or-set_same}
+use Rattle.std.proofs.Common.{◌≡◌, ℕ, ◌+◌, ◌-◌, ◌*◌, ◌/◌, ◌%◌, ◌<◌, ◌≤◌, ◌==◌, ℤ, true, false, List, [], ◌∷◌, length, get_or, set, Some, ◌≢◌, ◌⊎◌, inl, inr, refl, sym, ap, ◌∙◌, subst, arith, get_or-set_other, get_or-set_same, length-set}
 use Rattle.std.proofs.lemmas.Bool.{lt-ltb, eqb-true, cases_order}
 use Rattle.std.proofs.lemmas.Nat.{div-add-mod'}
 use Rattle.std.proofs.Math.Nat.{add-mod_left, mod-eq_of_lt, mod-lt, mul-le-mul_right, div-lt_iff_lt-mul, lt_of_mul-lt-mul_right}
@@ -10,8 +10,10 @@ use Rattle.terrain_base.specs.declared.post.Post.TheVariants.{Void, Metres}
 use Rattle.terrain_base.specs.Level.{rows_of, columns_of}
 use Rattle.terrain_base.proofs.SquareTexts.{same_square}
 use Rattle.tms_tree.specs.declared.place.Place.{Place}
-use Rattle.tms_tree.specs.Place.{IsPlace, place_of}
-use Rattle.terrain_base.specs.declared.tile.TileId.{TileId}
+use Rattle.std.specs.Prelude.{Contains}
+use Rattle.tms_tree.specs.Degrees.{Holds, square_rectangle}
+use Rattle.tms_tree.specs.Place.{IsPlace, point_of}
+use Rattle.cell_mosaic.proofs.Holders.{are_holders}
 use Rattle.dted_cell.specs.Header.{square_of}
 use Rattle.cell_mosaic.specs.declared.quad.Quad.{Quad}
 use Rattle.cell_mosaic.specs.Cells.{Cells}
@@ -21,8 +23,7 @@ use Rattle.cell_mosaic.specs.Value.{east_of, north_of, quad_round, value_in_cell
 use Rattle.cell_mosaic.proofs.Values.{value_by}
 use Rattle.resample.specs.declared.line.Line.{Line}
 use Rattle.resample.specs.Height.{height_or, first_height, height_at}
-use Rattle.resample.specs.Line.{IsLine, LiesIn, AreCounts, no_line}
-use Rattle.resample.specs.declared.counts.Counts.{Counts}
+use Rattle.resample.specs.Line.{IsLine, LiesIn, AreLines, no_line}
 use Rattle.resample.proofs.Firsts.{height_by_list}
 use Rattle.resample.proofs.Turns.{by_degrees, listed}
 
@@ -91,6 +92,15 @@ one_candidate place square h k e f =
     let l = not_zero _ k in
     by_degrees place ∙ (λ i. listed (180 * place.p / place.d) (180 * place.q / place.d) (m i) (l i)) ∙ one_listed _ _ square e f
 
+-- a place on two lines that are none of whole degrees has the square of their degrees alone
+pub one_on_lines : (place : Place) (square : Square) (east north : Line) → IsLine (180 * place.p) place.d east × (0 < east.rest) × (square.lon ≡ east.degrees) → IsLine (180 * place.q) place.d north × (0 < north.rest) × (square.lat ≡ north.degrees) → candidates_of place ≡ square ∷ []
+one_on_lines place square east north e n =
+    one_candidate place square (subst (λ (k : ℕ). 0 < k) e.0.rest e.1) (subst (λ (k : ℕ). 0 < k) n.0.rest n.1) (e.2 ∙ e.0.degrees) (n.2 ∙ n.0.degrees)
+
+-- which holds it
+pub one_holds : (place : Place) (square : Square) → IsPlace place → candidates_of place ≡ square ∷ [] → Holds (square_rectangle square) (point_of place)
+one_holds place square fit one = (are_holders place square fit).0 (subst (λ l. Contains l square) (sym one) (0, omega arith, refl))
+
 single : (fill : ℤ) (post : Post) → height_or fill (Some post) ≡ first_height fill (post ∷ [])
 single fill Void = refl
 single fill (Metres metres) = refl
@@ -111,16 +121,17 @@ each_set P lines i m line h is others n below = elim (cases_order n i) [
     apart (inl l) e = omega arith
     apart (inr m) e = omega arith
 
--- the counts at a place that lies on no parallel of whole degrees
-pub counts_here : (place start : Place) (degrees least : ℕ) (counts : Counts) → IsPlace place → place.q ≡ start.q → place.d ≡ start.d → degrees ≡ 180 * start.q / start.d → least ≡ min degrees 179 → AreCounts least counts
-    → 0 < 180 * place.q % place.d → AreCounts (180 * place.q / place.d) counts
-counts_here place start degrees least counts fit eq ed is cut are off =
-    let here : degrees ≡ 180 * place.q / place.d = is ∙ (λ i. 180 * sym eq i / sym ed i) in
-    let parts = div-add-mod' (180 * place.q) place.d in
-    let pole = fit.pole in
-    let below : 180 * place.q / place.d < 180 = lt_of_mul-lt-mul_right place.d (omega arith) in
-    subst (λ lat. AreCounts lat counts) (cut ∙ omega (arith, here, below)) are
+-- ---- lines and runs
 
--- a call at a grid point keeps a line
-pub turned : (tile : TileId) (i j : ℕ) (place : Place) (old new : Line) (units : ℕ) → place ≡ place_of tile i j → (IsLine units place.d old → IsLine units place.d new) → IsLine units (2 ^ tile.z * 32767) old → IsLine units (2 ^ tile.z * 32767) new
-turned tile i j place old new units is step = subst (λ (p : Place). IsLine units p.d old → IsLine units p.d new) is step
+-- lines that are each as they were, or another of the same place, are lines of the same places
+pub turned_lines : (units : ℕ → ℕ) (d : ℕ) (lines : List Line) (i : ℕ) (line : Line) → i < 67 → ((n : ℕ) → IsLine n d (get_or lines i no_line) → IsLine n d line) → AreLines units d lines → AreLines units d (set lines i line)
+turned_lines units d lines i line below same are = record {
+  full = length-set lines i line ∙ are.full;
+  each = each_set (λ (k : ℕ) l. IsLine (units k) d l) lines i 67 line (let full = are.full in omega (arith, full)) (same (units i) (are.each i below)) (λ n b off. are.each n b);
+}
+
+-- a line that lies on no whole degree lies in a degree before the last
+pub before_last : (n d degrees most : ℕ) → 0 < d → n ≤ most * d → 0 < n % d → n / d ≡ degrees → degrees < most
+before_last n d degrees most p within some is =
+    let parts = div-add-mod' n d in
+    subst (λ (k : ℕ). k < most) is (lt_of_mul-lt-mul_right d (omega (arith, parts, within, some)))

@@ -1,11 +1,12 @@
 -- Values where a square has no cell, and squares that hold a place.
-use Rattle.std.proofs.Common.{◌≡◌, ℕ, ◌<◌, ℤ, Bool, true, false, cond, List, length, get_or, Option, Some, None, is_some, refl, sym, subst, ◌∙◌}
+use Rattle.std.proofs.Common.{◌≡◌, ℕ, ◌<◌, ℤ, Bool, true, false, cond, List, length, get_or, Option, Some, None, is_some, refl, sym, ap, subst, ◌∙◌, arith}
 use Rattle.std.specs.Prelude.{Contains}
 use Rattle.terrain_base.specs.declared.square.Square.{Square}
 use Rattle.terrain_base.specs.declared.level.CellLevel.{CellLevel}
 use Rattle.std.specs.FinSet.{contains}
 use Rattle.terrain_base.specs.declared.level.CellLevel.TheVariants.{Zero, One, Two}
 use Rattle.terrain_base.specs.CellKey.{key_at}
+use Rattle.terrain_base.specs.Level.{level_number as number_of}
 use Rattle.terrain_base.specs.declared.post.Post.{Post}
 use Rattle.terrain_base.specs.declared.post.Post.TheVariants.{Void, Metres}
 use Rattle.tms_tree.specs.declared.place.Place.{Place}
@@ -48,6 +49,21 @@ pub none_held : (shapes : Shapes) (square : Square) (level : CellLevel) → None
 none_held shapes square Two none = (none_of (contains shapes (key_at square Two)) (contains shapes (key_at square One)) (contains shapes (key_at square Zero)) none).0
 none_held shapes square One none = (none_of (contains shapes (key_at square Two)) (contains shapes (key_at square One)) (contains shapes (key_at square Zero)) none).1
 none_held shapes square Zero none = (none_of (contains shapes (key_at square Two)) (contains shapes (key_at square One)) (contains shapes (key_at square Zero)) none).2
+
+finest_is_less : (two one zero : Bool) (finest : CellLevel) → Some finest ≡ cond two (Some Two) (cond one (Some One) (cond zero (Some Zero) None)) → number_of finest < 2 → two ≡ false
+finest_is_less true one zero finest is less = absurd (let same : finest ≡ Two = cc in let two = ap number_of same in omega (arith, less, two))
+finest_is_less false one zero finest is less = refl
+
+middle_is_less : (two one zero : Bool) (finest : CellLevel) → Some finest ≡ cond two (Some Two) (cond one (Some One) (cond zero (Some Zero) None)) → number_of finest < 1 → one ≡ false
+middle_is_less true one zero finest is less = absurd (let same : finest ≡ Two = cc in let two = ap number_of same in omega (arith, less, two))
+middle_is_less false true zero finest is less = absurd (let same : finest ≡ One = cc in let one = ap number_of same in omega (arith, less, one))
+middle_is_less false false zero finest is less = refl
+
+-- no key finer than the finest level of its square is among the shapes
+pub none_finer : (shapes : Shapes) (square : Square) (level finest : CellLevel) → Some finest ≡ finest_of shapes square → number_of finest < number_of level → contains shapes (key_at square level) ≡ false
+none_finer shapes square Two finest is less = finest_is_less (contains shapes (key_at square Two)) (contains shapes (key_at square One)) (contains shapes (key_at square Zero)) finest is less
+none_finer shapes square One finest is less = middle_is_less (contains shapes (key_at square Two)) (contains shapes (key_at square One)) (contains shapes (key_at square Zero)) finest is less
+none_finer shapes square Zero finest is less = absurd (omega (arith, less))
 
 -- a candidate holds the place
 pub candidate_holds : (place : Place) (squares : List Square) (k : ℕ) (square : Square) → IsPlace place → squares ≡ candidates_of place → k < length squares → square ≡ get_or squares k square → Holds (square_rectangle square) (point_of place)

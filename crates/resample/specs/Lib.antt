@@ -1,3 +1,4 @@
+pub mod Block
 pub mod Height
 pub mod HeightLaws
 pub mod Line

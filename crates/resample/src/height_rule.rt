@@ -1,10 +1,10 @@
 // The height at a place.
-ghost use Rattle.std.specs.Prelude.{◌≡◌, Some, IfOk, IsTrue, IsOk};
+ghost use Rattle.std.specs.Prelude.{◌≡◌, Some, IfOk};
 ghost use Rattle.terrain_base.specs.Height.{IsHeight};
 ghost use Rattle.tms_tree.specs.Degrees.{Holds, square_rectangle};
 ghost use Rattle.tms_tree.specs.Place.{IsPlace, point_of};
 ghost use Rattle.cell_mosaic.specs.Cells.{Cells, IsPost};
-ghost use Rattle.cell_mosaic.specs.Source.{FaultHasCause, TroubleIsShown, Keeps};
+ghost use Rattle.cell_mosaic.specs.Source.{GivesTold, Leaves};
 ghost use Rattle.cell_mosaic.specs.Value.{value_at};
 ghost use Rattle.resample.specs.Height.{height_at};
 
@@ -21,12 +21,11 @@ fn value_or_void<P: PostSource, S: Store>(
 ) -> Result<Post, SourceFault>
     requires place { IsPlace place }
     requires holds { Holds (square_rectangle square) (point_of place) }
-    ensures value { IfOk result (λ post. (told : Cells) → P.cells src.old (S.holds store.old) ≡ Some told → post ≡ value_at told square place) }
+    ensures value { GivesTold (P.cells src.old (S.holds store.old))
+        (λ told. value_at told square place) result }
     ensures height { IfOk result IsPost }
-    ensures sure { IsTrue (P.sure src.old) → IsOk result }
-    ensures shown { TroubleIsShown (P.shapes src.old) (S.holds store.old) (P.cells src.old (S.holds store.old)) result }
-    ensures cause { FaultHasCause (S.faults store.old) (S.faults store.new) result }
-    ensures keeps { Keeps P.cells P.shapes P.sure src.old src.new (S.holds store.old) (S.holds store.new) (S.log store.old) (S.log store.new) }
+    ensures leaves { Leaves P.cells P.shapes P.sure P.spoilt S.holds S.log S.faults
+        src.old src.new store.old store.new result }
 {
     match src.shape(square) {
         Some(_) => cell_value(src, store, square, place),
@@ -46,12 +45,11 @@ pub fn height<P: PostSource, S: Store>(
 ) -> Result<i16, SourceFault>
     requires fill { IsHeight fill }
     requires place { IsPlace place }
-    ensures value { IfOk result (λ metres. (told : Cells) → P.cells src.old (S.holds store.old) ≡ Some told → metres ≡ height_at fill told place) }
+    ensures value { GivesTold (P.cells src.old (S.holds store.old))
+        (λ told. height_at fill told place) result }
     ensures height { IfOk result IsHeight }
-    ensures sure { IsTrue (P.sure src.old) → IsOk result }
-    ensures shown { TroubleIsShown (P.shapes src.old) (S.holds store.old) (P.cells src.old (S.holds store.old)) result }
-    ensures cause { FaultHasCause (S.faults store.old) (S.faults store.new) result }
-    ensures keeps { Keeps P.cells P.shapes P.sure src.old src.new (S.holds store.old) (S.holds store.new) (S.log store.old) (S.log store.new) }
+    ensures leaves { Leaves P.cells P.shapes P.sure P.spoilt S.holds S.log S.faults
+        src.old src.new store.old store.new result }
 {
     let squares = candidates(place);
     for k in 0..squares.count() {

@@ -1,20 +1,19 @@
 // The height at a place that lies inside one square.
-ghost use Rattle.std.specs.Prelude.{◌≡◌, true, ℕ, ◌*◌, ◌<◌, Some, IfOk, IsTrue, IsOk};
+ghost use Rattle.std.specs.Prelude.{◌≡◌, true, ◌*◌, ◌<◌, IfOk};
 ghost use Rattle.std.specs.FinSet as set;
 ghost use Rattle.terrain_base.specs.Level.{rows_of, columns_of};
 ghost use Rattle.terrain_base.specs.Height.{IsHeight};
 ghost use Rattle.tms_tree.specs.Place.{IsPlace};
-ghost use Rattle.cell_mosaic.specs.Cells.{Cells, IsPost};
-ghost use Rattle.cell_mosaic.specs.Source.{FaultHasCause, TroubleIsShown, Keeps};
+ghost use Rattle.cell_mosaic.specs.Cells.{IsPost, finest_of};
+ghost use Rattle.cell_mosaic.specs.Source.{GivesTold, Leaves};
 ghost use Rattle.cell_mosaic.specs.Value.{value_in_key};
 ghost use Rattle.resample.specs.Height.{height_at};
-ghost use Rattle.resample.specs.Line.{IsLine, LiesIn, AreCounts};
+ghost use Rattle.resample.specs.Line.{IsLine, LiesIn};
 
-use crate::height;
-use crate::counts::{Counts, columns_in, rows_in};
+use crate::block::Block;
 use crate::line::{Line, turn_to};
-use cell_mosaic::{PostSource, SourceFault, blend, posts_round};
-use terrain_base::{CellKey, Post, Square, Store};
+use cell_mosaic::{PostSource, SourceFault, blend, coarser_value, posts_round};
+use terrain_base::{CellKey, Post, Store, columns, rows};
 use tms_tree::Place;
 
 /// The value at the place in the key's cell, by the two grid lines through it.
@@ -30,12 +29,11 @@ fn value_between<P: PostSource, S: Store>(
     requires known { set.contains (P.shapes src.old) key ≡ true }
     requires east { LiesIn (180 * place.p) place.d key.square.lon (columns_of key.square key.level) east.now }
     requires north { LiesIn (180 * place.q) place.d key.square.lat (rows_of key.level) north.now }
-    ensures value { IfOk result (λ post. (told : Cells) → P.cells src.old (S.holds store.old) ≡ Some told → post ≡ value_in_key told key place) }
+    ensures value { GivesTold (P.cells src.old (S.holds store.old))
+        (λ told. value_in_key told key place) result }
     ensures height { IfOk result IsPost }
-    ensures sure { IsTrue (P.sure src.old) → IsOk result }
-    ensures shown { TroubleIsShown (P.shapes src.old) (S.holds store.old) (P.cells src.old (S.holds store.old)) result }
-    ensures cause { FaultHasCause (S.faults store.old) (S.faults store.new) result }
-    ensures keeps { Keeps P.cells P.shapes P.sure src.old src.new (S.holds store.old) (S.holds store.new) (S.log store.old) (S.log store.new) }
+    ensures leaves { Leaves P.cells P.shapes P.sure P.spoilt S.holds S.log S.faults
+        src.old src.new store.old store.new result }
 {
     let unit = place.d as u128;
     let quad = posts_round(
@@ -50,56 +48,66 @@ fn value_between<P: PostSource, S: Store>(
     Ok(blend(&quad, east.beyond as u128, unit, north.beyond as u128, unit))
 }
 
-/// The square at these degrees.
-fn square_at(lon: u64, lat: u64) -> Square
-    requires lon { lon < 360 }
-    requires lat { lat < 180 }
-    ensures lon { result.lon ≡ lon }
-    ensures lat { result.lat ≡ lat }
+/// The same by lines that may be turned to another cell.
+fn value_by_lines<P: PostSource, S: Store>(
+    src: &mut P,
+    store: &mut S,
+    key: CellKey,
+    place: Place,
+    east: &Line,
+    north: &Line,
+) -> Result<Post, SourceFault>
+    requires place { IsPlace place }
+    requires known { set.contains (P.shapes src.old) key ≡ true }
+    requires east { IsLine (180 * place.p) place.d east.now × (key.square.lon ≡ east.now.degrees) }
+    requires north { IsLine (180 * place.q) place.d north.now × (key.square.lat ≡ north.now.degrees) }
+    ensures value { GivesTold (P.cells src.old (S.holds store.old))
+        (λ told. value_in_key told key place) result }
+    ensures height { IfOk result IsPost }
+    ensures leaves { Leaves P.cells P.shapes P.sure P.spoilt S.holds S.log S.faults
+        src.old src.new store.old store.new result }
 {
-    Square {
-        lat: lat as u16,
-        lon: lon as u16,
-    }
+    let mut meridian = *east;
+    turn_to(&mut meridian, columns(key.square, key.level), place.d);
+    let mut parallel = *north;
+    turn_to(&mut parallel, rows(key.level), place.d);
+    value_between(src, store, key, place, &meridian, &parallel)
 }
 
-/// The height at a place that lies on no whole degree, by the two grid lines through it; where the finest cell has a
-/// void there and the square has a coarser one, as at any place.
+/// The height at a place of a block that lies on no whole degree, by the two grid lines through it: the value in the
+/// finest cell, where that is a void the value in the coarser ones, and else the fill.
 pub(crate) fn inside<P: PostSource, S: Store>(
     src: &mut P,
     store: &mut S,
     fill: i16,
     place: Place,
-    east: &mut Line,
-    north: &mut Line,
-    counts: &Counts,
+    block: &Block,
+    east: &Line,
+    north: &Line,
 ) -> Result<i16, SourceFault>
     requires fill { IsHeight fill }
     requires place { IsPlace place }
-    requires east { IsLine (180 * place.p) place.d east.old × (0 < east.old.rest) }
-    requires north { IsLine (180 * place.q) place.d north.old × (0 < north.old.rest) }
-    requires counts { AreCounts north.old.degrees counts.now }
-    ensures value { IfOk result (λ metres. (told : Cells) → P.cells src.old (S.holds store.old) ≡ Some told → metres ≡ height_at fill told place) }
+    requires finest { block.now.finest ≡ finest_of (P.shapes src.old) block.now.square }
+    requires east { IsLine (180 * place.p) place.d east.now × (0 < east.now.rest) × (block.now.square.lon ≡ east.now.degrees) }
+    requires north { IsLine (180 * place.q) place.d north.now × (0 < north.now.rest) × (block.now.square.lat ≡ north.now.degrees) }
+    ensures value { GivesTold (P.cells src.old (S.holds store.old))
+        (λ told. height_at fill told place) result }
     ensures height { IfOk result IsHeight }
-    ensures east { (units : ℕ) → IsLine units place.d east.old → IsLine units place.d east.new }
-    ensures north { (units : ℕ) → IsLine units place.d north.old → IsLine units place.d north.new }
-    ensures sure { IsTrue (P.sure src.old) → IsOk result }
-    ensures shown { TroubleIsShown (P.shapes src.old) (S.holds store.old) (P.cells src.old (S.holds store.old)) result }
-    ensures cause { FaultHasCause (S.faults store.old) (S.faults store.new) result }
-    ensures keeps { Keeps P.cells P.shapes P.sure src.old src.new (S.holds store.old) (S.holds store.new) (S.log store.old) (S.log store.new) }
+    ensures leaves { Leaves P.cells P.shapes P.sure P.spoilt S.holds S.log S.faults
+        src.old src.new store.old store.new result }
 {
-    let square = square_at(east.degrees, north.degrees);
-    let Some(level) = src.shape(square) else {
+    let Some(level) = block.finest else {
         return Ok(fill);
     };
-    turn_to(east, columns_in(counts, level), place.d);
-    turn_to(north, rows_in(level), place.d);
-    let key = CellKey { square, level };
-    match value_between(src, store, key, place, east, north)? {
+    let key = CellKey {
+        square: block.square,
+        level,
+    };
+    if let Post::Metres(metres) = value_by_lines(src, store, key, place, east, north)? {
+        return Ok(metres);
+    }
+    match coarser_value(src, store, key, place)? {
         Post::Metres(metres) => Ok(metres),
-        Post::Void => match src.coarser(key) {
-            Some(_) => height(src, store, fill, place),
-            None => Ok(fill),
-        },
+        Post::Void => Ok(fill),
     }
 }

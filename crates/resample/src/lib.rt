@@ -1,7 +1,8 @@
 //! Heights from the cells of any source: at a place, and at the grid points of a tile.
 #![tactic(auto)]
 
-mod counts;
+mod block;
+mod grid_lines;
 mod height_rule;
 mod inside;
 pub mod laws;

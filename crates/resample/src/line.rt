@@ -35,6 +35,7 @@ pub(crate) fn turn_to(line: &mut Line, posts: u16, d: u64)
     requires rest { line.old.rest < d }
     ensures line { (units : ℕ) → IsLine units d line.old → IsLine units d line.new }
     ensures posts { line.new.posts ≡ posts }
+    ensures rest { line.new.rest ≡ line.old.rest }
 {
     if line.posts != posts {
         let steps = line.rest * (posts as u64 - 1);

@@ -3,11 +3,11 @@ use super::*;
 use cell_mosaic::{PostSource, WholeCells};
 use dted_cell::CellBytes;
 use std::alloc::{AllocError, Global};
-use terrain_base::{Grid, SureStore, TileId};
+use terrain_base::{Grid, SureStore, TileId, level_number};
 use tms_tree::Place;
 
 /// A cell, of whose posts each lies so much higher than the one west of it and the one south of it, modulo 2000 and
-/// less 700 metres, and of which there are voids unless `void_every` is 0.
+/// less 700 metres, and of which there are voids unless `void_every` is 0; from a column and from a row on, all are.
 #[derive(Clone, Copy)]
 struct Plan {
     uhl: &'static [u8],
@@ -19,6 +19,8 @@ struct Plan {
     eastwards: u32,
     northwards: u32,
     void_every: u32,
+    void_columns: u16,
+    void_rows: u16,
 }
 
 const SLOPES: [Plan; 12] = [
@@ -32,6 +34,8 @@ const SLOPES: [Plan; 12] = [
         eastwards: 7,
         northwards: 3,
         void_every: 11,
+        void_columns: 4000,
+        void_rows: 4000,
     },
     Plan {
         uhl: b"UHL10010000W0000000N03000300",
@@ -43,6 +47,8 @@ const SLOPES: [Plan; 12] = [
         eastwards: 5,
         northwards: 9,
         void_every: 7,
+        void_columns: 4000,
+        void_rows: 4000,
     },
     Plan {
         uhl: b"UHL10000000E0010000S03000300",
@@ -54,6 +60,8 @@ const SLOPES: [Plan; 12] = [
         eastwards: 11,
         northwards: 2,
         void_every: 0,
+        void_columns: 4000,
+        void_rows: 4000,
     },
     Plan {
         uhl: b"UHL10000000E0900000S18000300",
@@ -65,6 +73,8 @@ const SLOPES: [Plan; 12] = [
         eastwards: 13,
         northwards: 17,
         void_every: 9,
+        void_columns: 4000,
+        void_rows: 4000,
     },
     Plan {
         uhl: b"UHL10010000W0900000S18000300",
@@ -76,6 +86,8 @@ const SLOPES: [Plan; 12] = [
         eastwards: 3,
         northwards: 4,
         void_every: 0,
+        void_columns: 4000,
+        void_rows: 4000,
     },
     Plan {
         uhl: b"UHL10000000E0890000N18000300",
@@ -87,6 +99,8 @@ const SLOPES: [Plan; 12] = [
         eastwards: 19,
         northwards: 6,
         void_every: 5,
+        void_columns: 4000,
+        void_rows: 4000,
     },
     Plan {
         uhl: b"UHL10010000W0890000N18000300",
@@ -98,6 +112,8 @@ const SLOPES: [Plan; 12] = [
         eastwards: 2,
         northwards: 23,
         void_every: 0,
+        void_columns: 4000,
+        void_rows: 4000,
     },
     Plan {
         uhl: b"UHL11790000E0000000N03000300",
@@ -109,6 +125,8 @@ const SLOPES: [Plan; 12] = [
         eastwards: 6,
         northwards: 5,
         void_every: 13,
+        void_columns: 4000,
+        void_rows: 4000,
     },
     Plan {
         uhl: b"UHL11800000W0000000N03000300",
@@ -120,6 +138,8 @@ const SLOPES: [Plan; 12] = [
         eastwards: 8,
         northwards: 1,
         void_every: 4,
+        void_columns: 4000,
+        void_rows: 4000,
     },
     Plan {
         uhl: b"UHL10000000E0790000N12000300",
@@ -131,6 +151,8 @@ const SLOPES: [Plan; 12] = [
         eastwards: 31,
         northwards: 7,
         void_every: 6,
+        void_columns: 4000,
+        void_rows: 4000,
     },
     Plan {
         uhl: b"UHL10000000E0800000N00600010",
@@ -142,6 +164,8 @@ const SLOPES: [Plan; 12] = [
         eastwards: 1,
         northwards: 1,
         void_every: 17,
+        void_columns: 4000,
+        void_rows: 4000,
     },
     Plan {
         uhl: b"UHL10010000E0800000N18000300",
@@ -153,6 +177,8 @@ const SLOPES: [Plan; 12] = [
         eastwards: 29,
         northwards: 12,
         void_every: 0,
+        void_columns: 4000,
+        void_rows: 4000,
     },
 ];
 
@@ -166,6 +192,8 @@ const FLAT_WEST: Plan = Plan {
     eastwards: 0,
     northwards: 0,
     void_every: 0,
+    void_columns: 4000,
+    void_rows: 4000,
 };
 
 const FLAT_EAST: Plan = Plan {
@@ -218,10 +246,121 @@ const HEIGHTS: [(u64, u64, u64, i16); 40] = [
     (536944004, 506343296, 536854528, 375),
 ];
 
+/// Cells of levels 0, 1 and 2 in the square n80e000, and one of level 1 west of it, whose last column is void. Level 2 has
+/// posts in the west alone, level 1 in the south alone.
+const LEVELS: [Plan; 4] = [
+    Plan {
+        uhl: b"UHL10000000E0800000N18000300",
+        counts: b"00210121",
+        series: b"DTED0",
+        columns: 21,
+        rows: 121,
+        base: 300,
+        eastwards: 13,
+        northwards: 17,
+        void_every: 9,
+        void_columns: 4000,
+        void_rows: 4000,
+    },
+    Plan {
+        uhl: b"UHL10000000E0800000N01800030",
+        counts: b"02011201",
+        series: b"DTED1",
+        columns: 201,
+        rows: 1201,
+        base: 1100,
+        eastwards: 3,
+        northwards: 5,
+        void_every: 7,
+        void_columns: 4000,
+        void_rows: 600,
+    },
+    Plan {
+        uhl: b"UHL10000000E0800000N00600010",
+        counts: b"06013601",
+        series: b"DTED2",
+        columns: 601,
+        rows: 3601,
+        base: 40,
+        eastwards: 2,
+        northwards: 3,
+        void_every: 11,
+        void_columns: 300,
+        void_rows: 4000,
+    },
+    Plan {
+        uhl: b"UHL10010000W0800000N01800030",
+        counts: b"02011201",
+        series: b"DTED1",
+        columns: 201,
+        rows: 1201,
+        base: 900,
+        eastwards: 7,
+        northwards: 2,
+        void_every: 0,
+        void_columns: 200,
+        void_rows: 4000,
+    },
+];
+
+/// Places over 6480000, and the height there over the cells of several levels.
+const HEIGHTS_OVER_LEVELS: [(u64, u64, i16); 40] = [
+    (6488371, 6143497, 668),
+    (6497369, 6121901, 489),
+    (6495258, 6136322, 745),
+    (6481700, 6130280, 481),
+    (6483710, 6144366, 773),
+    (6495371, 6136160, 700),
+    (6492477, 6155636, 447),
+    (6497940, 6120007, -60),
+    (6497969, 6132000, -462),
+    (6497970, 6132005, -462),
+    (6497971, 6132010, -459),
+    (6497999, 6140000, -62),
+    (6498000, 6150010, -553),
+    (6498000, 6129999, 370),
+    (6498001, 6120005, 700),
+    (6501351, 6128171, 118),
+    (6498439, 6127102, -109),
+    (6511384, 6129159, 447),
+    (6503976, 6132762, 929),
+    (6503239, 6122358, 1180),
+    (6502557, 6134577, 1205),
+    (6500000, 6137971, -272),
+    (6500010, 6137985, -272),
+    (6500011, 6137986, -272),
+    (6510000, 6138000, 837),
+    (6510005, 6138001, 841),
+    (6502161, 6142343, 1026),
+    (6498068, 6138184, 761),
+    (6504873, 6145070, 1200),
+    (6503444, 6143465, 1099),
+    (6507489, 6148287, -599),
+    (6504527, 6155679, -201),
+    (6480000, 6120060, -642),
+    (6480000, 6132345, 1044),
+    (6479999, 6132345, 415),
+    (6479910, 6120777, -355),
+    (6479905, 6153333, -185),
+    (6515999, 6155999, -100),
+    (6516000, 6138003, 880),
+    (6516000, 6150000, -440),
+];
+
+/// Tiles over them, and the sum of their heights, each times 1 to 31 in turn.
+const SUMS_OVER_LEVELS: [(u8, u32, u32, i64); 3] = [
+    (7, 128, 121, 7_814_753),
+    (5, 31, 30, 489_924),
+    (8, 256, 242, 23_171_865),
+];
+
 /// The word of a post, of sign and magnitude.
 fn word(plan: &Plan, col: u16, row: u16) -> u16 {
     let (col, row) = (u32::from(col), u32::from(row));
     if plan.void_every > 0 && (col + 2 * row) % plan.void_every == 3 {
+        return 0xFFFF;
+    }
+    if col >= u32::from(plan.void_columns) || row >= u32::from(plan.void_rows) {
         return 0xFFFF;
     }
     let east = plan.eastwards.wrapping_mul(col);
@@ -278,7 +417,7 @@ fn build(alloc: Global, plan: &Plan) -> Result<Vec<u8>, AllocError> {
     Ok(cell)
 }
 
-/// Whether the plan's cell was added.
+/// Whether the plan's cell was added. Those of a square come by level, the coarsest first.
 fn add(alloc: Global, cells: &mut WholeCells, plan: &Plan) -> bool {
     let Ok(text) = build(alloc, plan) else {
         return false;
@@ -286,10 +425,12 @@ fn add(alloc: Global, cells: &mut WholeCells, plan: &Plan) -> bool {
     let Ok(cell) = CellBytes::check(text) else {
         return false;
     };
-    if cells.shape(cell.view().square()).is_some() {
-        return false;
+    match cells.shape(cell.view().square()) {
+        None => cells.put(cell).is_ok(),
+        Some(finest) => {
+            level_number(finest) < level_number(cell.view().level()) && cells.put(cell).is_ok()
+        }
     }
-    cells.put(cell).is_ok()
 }
 
 /// The height at the place of these numbers, over a fill of 5 metres below 0.
@@ -331,5 +472,35 @@ fn of_cells_that_disagree_the_eastern_one_has_the_shared_meridian(rt: HostRuntim
         let (i, j) = ((k % 67) as u8, (k / 67) as u8);
         let want = if i == 66 { 30 } else { 0 };
         assert!(rt; grid.get(i, j) == want, "{i} {j}");
+    }
+}
+
+/// The sum of a grid's heights, each times 1 to 31 in turn.
+fn sum(grid: &Grid) -> i64 {
+    let mut sum: i64 = 0;
+    for k in 0..4489u16 {
+        let metres = i64::from(grid.get((k % 67) as u8, (k / 67) as u8));
+        sum = sum.wrapping_add(metres.wrapping_mul(i64::from(k % 31 + 1)));
+    }
+    sum
+}
+
+#[test]
+fn voids_of_a_finer_cell_are_filled_from_the_coarser_ones(rt: HostRuntime) {
+    let mut cells = WholeCells::new(rt.alloc());
+    for plan in LEVELS {
+        assert!(rt; add(rt.alloc(), &mut cells, &plan));
+    }
+    let mut store = SureStore::new(rt.alloc());
+    for (p, q, want) in HEIGHTS_OVER_LEVELS {
+        let metres = height_at(&mut cells, &mut store, p, q, 6_480_000);
+        assert!(rt; metres == Some(want), "{p} {q}");
+    }
+    let mut grid = Grid::new(rt.alloc()).ok().expect(&rt, "memory");
+    for (z, x, y, want) in SUMS_OVER_LEVELS {
+        let tile = TileId::of(z, x, y).expect(&rt, "a tile");
+        let filled = tile_grid(&mut cells, &mut store, -5, tile, &mut grid);
+        assert!(rt; filled.is_ok());
+        assert!(rt; sum(&grid) == want, "{z} {x} {y}");
     }
 }

@@ -1,104 +1,164 @@
 // The heights of a tile's grid points.
-ghost use Rattle.std.specs.Prelude.{◌≡◌, ◌+◌, ◌*◌, ◌/◌, ◌%◌, ◌<◌, ◌≤◌, ℕ, Some, IfOk, OnOk, IsTrue, IsOk, length};
+ghost use Rattle.std.specs.Prelude.{◌≡◌, ◌+◌, ◌*◌, ◌/◌, ◌%◌, ◌<◌, ◌≤◌, Some, IfOk, OnOk, length};
 ghost use Rattle.terrain_base.specs.Height.{IsHeight};
 ghost use Rattle.tms_tree.specs.Place.{IsPlace};
-ghost use Rattle.cell_mosaic.specs.Cells.{Cells};
-ghost use Rattle.cell_mosaic.specs.Source.{FaultHasCause, TroubleIsShown, Keeps};
-ghost use Rattle.resample.specs.Height.{height_at, grid_of, HasFirst};
-ghost use Rattle.resample.specs.Line.{IsLine, AreColumns, AreCounts};
+ghost use Rattle.cell_mosaic.specs.Cells.{Cells, finest_of};
+ghost use Rattle.cell_mosaic.specs.Source.{GivesTold, Leaves};
+ghost use Rattle.resample.specs.Height.{height_at, grid_of};
+ghost use Rattle.resample.specs.Line.{IsLine, IsRun, AreGridLines, row_units, parts_of};
+ghost use Rattle.resample.specs.Block.{IsBlock, Fills};
 
-use crate::counts::{Counts, counts_at};
+use crate::block::{Block, block_at};
+use crate::grid_lines::{GridLines, Run, column_lines, row_lines, run_at, turn_run};
 use crate::height;
 use crate::inside::inside;
-use crate::line::{Line, line_at};
+use crate::line::Line;
 use cell_mosaic::{PostSource, SourceFault};
-use terrain_base::{Grid, Store, TileId};
+use terrain_base::{Grid, Store, TileId, columns, rows};
 use tms_tree::{Place, tile_place};
 
-/// The grid lines of the tile's columns.
-fn column_lines(tile: TileId) -> [Line; 67]
-    ensures { AreColumns tile result }
-{
-    let mut lines = [Line {
-        degrees: 0,
-        rest: 0,
-        posts: 2,
-        post: 0,
-        beyond: 0,
-    }; 67];
-    for i in 0..67u8 {
-        let place = tile_place(tile, i, 0);
-        lines[i as usize] = line_at(180 * place.p, place.d);
-    }
-    lines
-}
-
-/// The height at a place, by the two grid lines through it where it lies on no whole degree.
+/// The height at a place of a block, by the two grid lines through it where it lies on no whole degree.
 fn point<P: PostSource, S: Store>(
     src: &mut P,
     store: &mut S,
     fill: i16,
     place: Place,
-    east: &mut Line,
-    north: &mut Line,
-    counts: &Counts,
+    block: &Block,
+    east: &Line,
+    north: &Line,
 ) -> Result<i16, SourceFault>
     requires fill { IsHeight fill }
     requires place { IsPlace place }
-    requires east { IsLine (180 * place.p) place.d east.old }
-    requires north { IsLine (180 * place.q) place.d north.old }
-    requires counts { 0 < 180 * place.q % place.d → AreCounts (180 * place.q / place.d) counts.now }
-    ensures value { IfOk result (λ metres. (told : Cells) → P.cells src.old (S.holds store.old) ≡ Some told → metres ≡ height_at fill told place) }
+    requires finest { block.now.finest ≡ finest_of (P.shapes src.old) block.now.square }
+    requires east { IsLine (180 * place.p) place.d east.now × (0 < east.now.rest → block.now.square.lon ≡ east.now.degrees) }
+    requires north { IsLine (180 * place.q) place.d north.now × (0 < north.now.rest → block.now.square.lat ≡ north.now.degrees) }
+    ensures value { GivesTold (P.cells src.old (S.holds store.old))
+        (λ told. height_at fill told place) result }
     ensures height { IfOk result IsHeight }
-    ensures east { (units : ℕ) → IsLine units place.d east.old → IsLine units place.d east.new }
-    ensures north { (units : ℕ) → IsLine units place.d north.old → IsLine units place.d north.new }
-    ensures sure { IsTrue (P.sure src.old) → IsOk result }
-    ensures shown { TroubleIsShown (P.shapes src.old) (S.holds store.old) (P.cells src.old (S.holds store.old)) result }
-    ensures cause { FaultHasCause (S.faults store.old) (S.faults store.new) result }
-    ensures keeps { Keeps P.cells P.shapes P.sure src.old src.new (S.holds store.old) (S.holds store.new) (S.log store.old) (S.log store.new) }
+    ensures leaves { Leaves P.cells P.shapes P.sure P.spoilt S.holds S.log S.faults
+        src.old src.new store.old store.new result }
 {
     if east.rest == 0 || north.rest == 0 {
         return height(src, store, fill, place);
     }
-    inside(src, store, fill, place, east, north, counts)
+    inside(src, store, fill, place, block, east, north)
 }
 
-/// Fills a row of the grid with the heights at its points.
+/// Fills the points of a block in a row of the grid.
 fn fill_row<P: PostSource, S: Store>(
     src: &mut P,
     store: &mut S,
     fill: i16,
-    tile: TileId,
+    block: &Block,
     j: u8,
-    lines: &mut [Line; 67],
+    lines: &GridLines,
     out: &mut Grid,
 ) -> Result<(), SourceFault>
     requires fill { IsHeight fill }
-    requires row { j ≤ 66 }
-    requires columns { AreColumns tile lines.old }
-    ensures value { OnOk result ((told : Cells) → P.cells src.old (S.holds store.old) ≡ Some told → HasFirst fill told tile out.old (67 * j) → HasFirst fill told tile out.new (67 * j + 67)) }
+    requires block { IsBlock (P.shapes src.old) block.now }
+    requires row { (block.now.rows.first ≤ j) × (j < block.now.rows.end) }
+    requires lines { AreGridLines block.now.tile lines.now }
+    ensures value { OnOk result ((told : Cells) → P.cells src.old (S.holds store.old) ≡ Some told
+        → Fills fill told block.now.tile block.now.columns.first block.now.columns.end j (j + 1) out.old out.new) }
     ensures full { OnOk result (length out.new ≡ 4489) }
-    ensures columns { OnOk result (AreColumns tile lines.new) }
-    ensures sure { IsTrue (P.sure src.old) → IsOk result }
-    ensures shown { TroubleIsShown (P.shapes src.old) (S.holds store.old) (P.cells src.old (S.holds store.old)) result }
-    ensures cause { FaultHasCause (S.faults store.old) (S.faults store.new) result }
-    ensures keeps { Keeps P.cells P.shapes P.sure src.old src.new (S.holds store.old) (S.holds store.new) (S.log store.old) (S.log store.new) }
+    ensures leaves { Leaves P.cells P.shapes P.sure P.spoilt S.holds S.log S.faults
+        src.old src.new store.old store.new result }
 {
-    let start = tile_place(tile, 0, j);
-    let mut north = line_at(180 * start.q, start.d);
-    let counts = counts_at(north.degrees.min(179) as u16);
-    for i in 0..67u8 {
-        let mut east = lines[i as usize];
-        let place = tile_place(tile, i, j);
-        let metres = point(src, store, fill, place, &mut east, &mut north, &counts)?;
-        lines[i as usize] = east;
+    let north = lines.rows[j as usize];
+    for i in block.columns.first..block.columns.end {
+        let place = tile_place(block.tile, i, j);
+        let metres = point(
+            src,
+            store,
+            fill,
+            place,
+            block,
+            &lines.columns[i as usize],
+            &north,
+        )?;
         out.set(i, j, metres);
     }
     Ok(())
 }
 
+/// Turns the lines of a block to its finest cell, so that its points find them so.
+fn turn_block(block: &Block, lines: &mut GridLines)
+    requires block { IsRun (row_units block.now.tile) (parts_of block.now.tile) block.now.rows × (block.now.columns.end ≤ 67) }
+    requires lines { AreGridLines block.now.tile lines.old }
+    ensures { AreGridLines block.now.tile lines.new }
+{
+    if let Some(level) = block.finest {
+        let d = tile_place(block.tile, 0, 0).d;
+        turn_run(
+            &mut lines.columns,
+            block.columns,
+            columns(block.square, level),
+            d,
+        );
+        turn_run(&mut lines.rows, block.rows, rows(level), d);
+    }
+}
+
+/// Fills the points of a block.
+fn fill_block<P: PostSource, S: Store>(
+    src: &mut P,
+    store: &mut S,
+    fill: i16,
+    block: &Block,
+    lines: &mut GridLines,
+    out: &mut Grid,
+) -> Result<(), SourceFault>
+    requires fill { IsHeight fill }
+    requires block { IsBlock (P.shapes src.old) block.now }
+    requires lines { AreGridLines block.now.tile lines.old }
+    ensures value { OnOk result ((told : Cells) → P.cells src.old (S.holds store.old) ≡ Some told
+        → Fills fill told block.now.tile block.now.columns.first block.now.columns.end
+        block.now.rows.first block.now.rows.end out.old out.new) }
+    ensures full { OnOk result (length out.new ≡ 4489) }
+    ensures lines { OnOk result (AreGridLines block.now.tile lines.new) }
+    ensures leaves { Leaves P.cells P.shapes P.sure P.spoilt S.holds S.log S.faults
+        src.old src.new store.old store.new result }
+{
+    turn_block(block, lines);
+    for j in block.rows.first..block.rows.end {
+        fill_row(src, store, fill, block, j, lines, out)?;
+    }
+    Ok(())
+}
+
+/// Fills the points of a run of rows, block by block from the west.
+fn fill_band<P: PostSource, S: Store>(
+    src: &mut P,
+    store: &mut S,
+    fill: i16,
+    tile: TileId,
+    rows: Run,
+    lines: &mut GridLines,
+    out: &mut Grid,
+) -> Result<(), SourceFault>
+    requires fill { IsHeight fill }
+    requires rows { IsRun (row_units tile) (parts_of tile) rows }
+    requires lines { AreGridLines tile lines.old }
+    ensures value { OnOk result ((told : Cells) → P.cells src.old (S.holds store.old) ≡ Some told
+        → Fills fill told tile 0 67 rows.first rows.end out.old out.new) }
+    ensures full { OnOk result (length out.new ≡ 4489) }
+    ensures lines { OnOk result (AreGridLines tile lines.new) }
+    ensures leaves { Leaves P.cells P.shapes P.sure P.spoilt S.holds S.log S.faults
+        src.old src.new store.old store.new result }
+{
+    let mut i = 0;
+    while i < 67 {
+        let run = run_at(&lines.columns, i);
+        let block = block_at(src, tile, run, rows);
+        fill_block(src, store, fill, &block, lines, out)?;
+        i = run.end;
+    }
+    Ok(())
+}
+
 /// Fills the grid with the heights at the tile's grid points. After an error its contents are not known. Faults have
-/// the causes that those of `height` have, and a sure source gives none.
+/// the causes that those of `height` have, and a sure source gives none. The points are filled square by square, so
+/// that a source that keeps one cell at a time fetches few of them twice.
 pub fn tile_grid<P: PostSource, S: Store>(
     src: &mut P,
     store: &mut S,
@@ -108,14 +168,18 @@ pub fn tile_grid<P: PostSource, S: Store>(
 ) -> Result<(), SourceFault>
     requires { IsHeight fill }
     ensures value { OnOk result ((told : Cells) → P.cells src.old (S.holds store.old) ≡ Some told → out.new ≡ grid_of fill told tile) }
-    ensures sure { IsTrue (P.sure src.old) → IsOk result }
-    ensures shown { TroubleIsShown (P.shapes src.old) (S.holds store.old) (P.cells src.old (S.holds store.old)) result }
-    ensures cause { FaultHasCause (S.faults store.old) (S.faults store.new) result }
-    ensures keeps { Keeps P.cells P.shapes P.sure src.old src.new (S.holds store.old) (S.holds store.new) (S.log store.old) (S.log store.new) }
+    ensures leaves { Leaves P.cells P.shapes P.sure P.spoilt S.holds S.log S.faults
+        src.old src.new store.old store.new result }
 {
-    let mut lines = column_lines(tile);
-    for j in 0..67u8 {
-        fill_row(src, store, fill, tile, j, &mut lines, out)?;
+    let mut lines = GridLines {
+        columns: column_lines(tile),
+        rows: row_lines(tile),
+    };
+    let mut j = 0;
+    while j < 67 {
+        let run = run_at(&lines.rows, j);
+        fill_band(src, store, fill, tile, run, &mut lines, out)?;
+        j = run.end;
     }
     Ok(())
 }

@@ -1,7 +1,8 @@
-use Rattle.std.proofs.Common.{ap, subst, sym, ◌∙◌, arith, FitsSigned, w16}
+use Rattle.std.proofs.Common.{subst, sym, ◌∙◌, arith, FitsSigned, w16}
 use Rattle.std.proofs.lemmas.Int.{to_z-of_z}
 use Rattle.cell_mosaic.specs.Cells.{IsPost}
 use Rattle.cell_mosaic.proofs.Sums.{height_fits}
+use Rattle.cell_mosaic.proofs.Keeping.{told_next}
 use Rattle.resample.proofs.Firsts.{height_found, height_filled}
 use Rattle.resample.proofs.Places.{candidate_holds}
 use Rattle.resample.proofs.height_rule.height.Goals as goal
@@ -12,11 +13,10 @@ value_or_void-requires-clause-holds g c =
 
 pub returns-in-Metres-clause-value : goal.returns-in-Metres-clause-value
 returns-in-Metres-clause-value g c told is =
-    let keeps = c.loop-k.invariant.0 in
-    let told_here = ap (g.P.PostSource.cells c.loop-k.src) keeps.held ∙ keeps.stays told is in
+    let told_here = told_next c.loop-k.invariant.0 told is in
     let value = sym (c.in_ok-metres.ensures.value told told_here) ∙ c.in-Metres.is in
     let r = c.ranges.fill in
-    let rest = simp to_z-of_z at c.loop-k.invariant.2 told is in
+    let rest = simp to_z-of_z at c.loop-k.invariant.1 told is in
     let f : FitsSigned w16 c.in-Metres.metres = height_fits _ (subst IsPost c.in-Metres.is c.in_ok-metres.ensures.height) in
     simp to_z-of_z
     (height_found c.args.fill told c.args.place c.candidates-squares.result c.loop-k.k c.at.result c.in-Metres.metres c.candidates-squares.ensures.value (omega arith) c.at.ensures
@@ -25,6 +25,6 @@ returns-in-Metres-clause-value g c told is =
 pub returns-clause-value : goal.returns-clause-value
 returns-clause-value g c told is =
     let r = c.ranges.fill in
-    let rest = simp to_z-of_z at c.loop-k.invariant.2 told is in
+    let rest = simp to_z-of_z at c.loop-k.invariant.1 told is in
     simp to_z-of_z
     (height_filled c.args.fill told c.args.place c.candidates-squares.result c.loop-k.k c.candidates-squares.ensures.value (omega arith) rest)

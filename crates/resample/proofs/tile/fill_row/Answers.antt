@@ -1,64 +1,65 @@
-use Rattle.std.proofs.Common.{◌≡◌, ℕ, ℤ, ◌+◌, ◌*◌, ◌^◌, ap, sym, ◌∙◌, length, set, length-set, arith, subst, FitsSigned, w16, to_z, of_z}
+use Rattle.std.proofs.Common.{◌≡◌, ◌+◌, ℕ, ap, sym, ◌∙◌, length, set, length-set, arith, subst, FitsSigned, w16, to_z, of_z}
 use Rattle.std.proofs.lemmas.Int.{to_z-of_z}
-use Rattle.tms_tree.specs.declared.place.Place.{Place}
-use Rattle.tms_tree.specs.Place.{place_of}
 use Rattle.terrain_base.specs.Grid.{spot}
+use Rattle.cell_mosaic.specs.Cells.{finest_of}
 use Rattle.cell_mosaic.proofs.Sums.{height_fits}
-use Rattle.cell_mosaic.specs.Source.{TroubleIsShown}
-use Rattle.resample.specs.Height.{HasFirst}
-use Rattle.resample.specs.Line.{IsLine}
-use Rattle.resample.proofs.Grids.{first_more, height_at_spot}
-use Rattle.cell_mosaic.proofs.Keeping.{keeps_on, told_next, fault_before, err_shown}
-use Rattle.resample.proofs.Lines.{each_set, counts_here, turned}
+use Rattle.cell_mosaic.proofs.Keeping.{told_next, leaves_none, leaves_then, leaves_ok, leaves_err}
+use Rattle.resample.specs.Height.{height_at}
+use Rattle.resample.specs.Block.{Fills}
+use Rattle.resample.proofs.Blocks.{column_here, row_here}
+use Rattle.resample.proofs.Fills.{no_columns, more_columns, point_more}
 use Rattle.resample.proofs.tile.fill_row.Goals as goal
 
-pub point-requires-clause-counts : goal.point-requires-clause-counts
-point-requires-clause-counts g c =
-    let p = c.tile_place-place.ensures in
-    let s = c.tile_place-start.ensures in
-    counts_here c.tile_place-place.result c.tile_place-start.result c.line_at-north.result.degrees c.min.result c.counts_at-counts.result p.place
-    (ap (λ (place : Place). place.q) (p.value) ∙ sym (ap (λ (place : Place). place.q) s.value))
-    (ap (λ (place : Place). place.d) (p.value) ∙ sym (ap (λ (place : Place). place.d) s.value))
-    c.line_at-north.ensures.degrees c.min.ensures c.counts_at-counts.ensures
+pub loop-i-init : goal.loop-i-init
+loop-i-init g c = (leaves_none (tt {0}), λ told is. no_columns (to_z w16 (of_z w16 c.args.fill)) told c.args.block.now.tile c.args.block.now.columns.first c.args.j (c.args.j + 1) c.args.out.now, λ some. absurd (omega (arith, some)))
+
+pub point-requires-clause-finest : goal.point-requires-clause-finest
+point-requires-clause-finest g c = c.requires.block.finest_is ∙ ap (λ s. finest_of s c.args.block.now.square) (sym c.loop-i.invariant.0.keeps.shape)
+
+pub point-requires-clause-east : goal.point-requires-clause-east
+point-requires-clause-east g c =
+    column_here (g.P.PostSource.shapes c.args.src.now) c.args.block.now c.args.lines.now c.loop-i.i c.args.j c.tile_place-place.result c.requires.block c.requires.lines c.loop-i.auto.i c.loop-i-test.true c.tile_place-place.ensures.value
+
+pub point-requires-clause-north : goal.point-requires-clause-north
+point-requires-clause-north g c =
+    row_here (g.P.PostSource.shapes c.args.src.now) c.args.block.now c.args.lines.now c.loop-i.i c.args.j c.tile_place-place.result c.requires.block c.requires.lines c.requires.row.0 c.requires.row.1 c.tile_place-place.ensures.value
 
 pub loop-i-preserved : goal.loop-i-preserved
 loop-i-preserved g c =
     let inv = c.loop-i.invariant in
     let e = c.in_ok-metres.ensures in
     let p = c.tile_place-place.ensures in
-    let tile = c.args.tile in
     let i = c.loop-i.i in
     let j = c.args.j in
-    let test = c.loop-i-test.true in
-    let fill = to_z w16 (of_z w16 c.args.fill) in
     let metres = c.in_ok-metres.metres in
+    let fill = to_z w16 (of_z w16 c.args.fill) in
+    let tile = c.args.block.now.tile in
+    let across = c.requires.block.across.last in
+    let along = c.requires.block.along.last in
     let f : FitsSigned w16 metres = height_fits _ e.height in
     let v : c.set.new.self ≡ set c.loop-i.out (spot i j) metres = simp to_z-of_z at c.set.ensures.value in
     let full : length c.loop-i.out ≡ 4489 = sym (length-set c.loop-i.out (spot i j) metres) ∙ ap length (sym v) ∙ c.set.ensures.full in (
-      keeps_on inv.0 e.keeps,
-      omega (arith, inv.1, e.cause.later),
-      λ told is first. subst (λ grid. HasFirst fill told tile grid (67 * j + (i + 1))) (sym v)
-          (first_more fill told tile c.loop-i.out (67 * j + i) (spot i j) (67 * j + (i + 1)) metres (omega arith) (omega arith) (omega (arith, full, test, c.requires.row))
-          (height_at_spot fill told tile i j c.tile_place-place.result metres (omega (arith, test)) p.value (e.value told (told_next inv.0 told is))) (inv.2 told is first)),
+      leaves_ok (tt {0}) (leaves_then inv.0 e.leaves),
+      λ told is. subst (λ grid. Fills fill told tile c.args.block.now.columns.first (i + 1) j (j + 1) c.args.out.now grid) (sym v)
+          (more_columns fill told tile c.args.block.now.columns.first i (i + 1) j (j + 1) c.args.out.now c.loop-i.out (set c.loop-i.out (spot i j) metres) (inv.1 told is)
+          (point_more fill told tile i j c.loop-i.out metres (omega (arith, c.loop-i-test.true, across)) (omega (arith, c.requires.row.1, along)) full
+          (e.value told (told_next inv.0 told is) ∙ ap (height_at fill told) p.value))),
       λ some. c.set.ensures.full,
-      record {
-        full = length-set c.loop-i.lines i c.point.new.east ∙ inv.4.full;
-        each = each_set (λ (n : ℕ) line. IsLine (180 * (place_of tile n 0).p) (2 ^ tile.z * 32767) line) c.loop-i.lines i 67 c.point.new.east (omega (arith, inv.4.full, test))
-            (turned tile i j c.tile_place-place.result _ _ (180 * (place_of tile i 0).p) p.value (e.east (180 * (place_of tile i 0).p)) (inv.4.each i test)) (λ n below off. inv.4.each n below);
-      },
-      turned tile i j c.tile_place-place.result _ _ (180 * (place_of tile 0 j).q) p.value (e.north (180 * (place_of tile 0 j).q)) inv.5,
     )
 
 pub returns-clause-value : goal.returns-clause-value
-returns-clause-value g c told is first =
-    let end : c.loop-i.i ≡ 67 = omega arith in
-    let tile = c.args.tile in
-    subst (λ (i : ℕ). HasFirst c.args.fill told tile c.loop-i.out (67 * c.args.j + i)) end
-    (subst (λ (fill : ℤ). HasFirst fill told tile c.args.out.now (67 * c.args.j) → HasFirst fill told tile c.loop-i.out (67 * c.args.j + c.loop-i.i)) (to_z-of_z w16 c.args.fill c.ranges.fill)
-    (c.loop-i.invariant.2 told is) first)
+returns-clause-value g c told is =
+    let r = c.ranges.fill in
+    let some = c.requires.block.across.some in
+    let end : c.loop-i.i ≡ c.args.block.now.columns.end = omega (arith, some) in
+    subst (λ (i : ℕ). Fills c.args.fill told c.args.block.now.tile c.args.block.now.columns.first i c.args.j (c.args.j + 1) c.args.out.now c.loop-i.out) end
+    (simp to_z-of_z at c.loop-i.invariant.1 told is)
 
-pub returns-in_err-metres-clause-shown : goal.returns-in_err-metres-clause-shown
-returns-in_err-metres-clause-shown g c =
-    let before = c.loop-i.invariant.0 in
-    err_shown _ _ _ c.from_residual.result c.in_err-metres.field-0.0 c.from_residual.ensures.1
-    (fault_before before c.in_err-metres.field-0.0 (subst (TroubleIsShown _ _ _) c.in_err-metres.was c.point.ensures.shown))
+pub returns-clause-full : goal.returns-clause-full
+returns-clause-full g c =
+    let some = c.requires.block.across.some in
+    c.loop-i.invariant.2 (omega (arith, some))
+
+pub returns-in_err-metres-clause-leaves : goal.returns-in_err-metres-clause-leaves
+returns-in_err-metres-clause-leaves g c =
+    leaves_then c.loop-i.invariant.0 (leaves_err c.from_residual.result c.from_residual.ensures.1 c.in_err-metres.ensures.leaves)

@@ -3,7 +3,7 @@ use Rattle.tms_tree.specs.declared.place.Place.{Place}
 use Rattle.tms_tree.specs.Place.{place_of}
 use Rattle.resample.specs.Line.{IsLine}
 use Rattle.resample.proofs.Lines.{each_set}
-use Rattle.resample.proofs.tile.column_lines.Goals as goal
+use Rattle.resample.proofs.grid_lines.column_lines.Goals as goal
 
 pub loop-i-preserved : goal.loop-i-preserved
 loop-i-preserved c =

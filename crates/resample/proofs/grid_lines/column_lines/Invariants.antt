@@ -1,7 +1,7 @@
 use Rattle.std.proofs.Common.{◌≡◌, ℕ, ◌<◌, ◌*◌, ◌^◌, get_or, length}
 use Rattle.tms_tree.specs.Place.{place_of}
 use Rattle.resample.specs.Line.{IsLine, no_line}
-use Rattle.resample.proofs.tile.column_lines.Given as goal
+use Rattle.resample.proofs.grid_lines.column_lines.Given as goal
 
 abbrev pub invariant-loop-i : goal.invariant-loop-i
 invariant-loop-i l =
