@@ -1,8 +1,9 @@
 -- The line of a cell.
 use Rattle.std.specs.Prelude.{ℕ, List, [], ◌∷◌, codes, decimal, option_map}
+use Rattle.terrain_base.specs.Level.{level_number}
 use Rattle.terrain_base.specs.SquareText.{square_text}
 use Rattle.dted_cell.specs.Cell.{square_in, level_in, columns_in, rows_in, extremes_in, voids_in}
-use Rattle.report_text.specs.Words.{level_number, number_or_dash, joined}
+use Rattle.report_text.specs.Words.{number_or_dash, joined}
 
 -- `SQUARE level V columns C rows R`
 abbrev pub shape_text : List ℕ → List ℕ

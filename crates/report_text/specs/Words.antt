@@ -1,14 +1,6 @@
 -- Words that stand in several lines.
 use Rattle.std.specs.Prelude.{ℕ, ℤ, List, [], ◌∷◌, ◌++◌, codes, Option, Some, None}
 use Rattle.std.specs.Fmt.{signed_decimal}
-use Rattle.terrain_base.specs.declared.level.CellLevel.{CellLevel}
-use Rattle.terrain_base.specs.declared.level.CellLevel.TheVariants.{Zero, One, Two}
-
--- the number of a DTED level
-abbrev pub level_number : CellLevel → ℕ
-level_number Zero = 0
-level_number One = 1
-level_number Two = 2
 
 -- a number that is not there is printed as a dash
 abbrev pub number_or_dash : Option ℤ → List ℕ

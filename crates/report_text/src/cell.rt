@@ -2,10 +2,10 @@
 ghost use Rattle.std.specs.Prelude.{◌≡◌, IfOk, option_map, string_bytes};
 ghost use Rattle.report_text.specs.Cell.{cell_line_of};
 
-use crate::words::{level_word, number_word, square_word};
+use crate::words::{number_word, square_word};
 use dted_cell::CellView;
 use std::alloc::Global;
-use terrain_base::{Extremes, NoMemory};
+use terrain_base::{Extremes, NoMemory, level_number};
 
 // The least height, and the greatest.
 fn ends(extremes: Option<Extremes>) -> (Option<i16>, Option<i16>)
@@ -25,7 +25,7 @@ pub fn cell_line(alloc: Global, view: &CellView<'_>) -> Result<String, NoMemory>
     ensures { IfOk result (λ line. string_bytes line ≡ cell_line_of view.now) }
 {
     let square = square_word(alloc, view.square())?;
-    let level = level_word(view.level());
+    let level = level_number(view.level());
     let columns = view.columns();
     let rows = view.rows();
     let (least, greatest) = ends(view.extremes());

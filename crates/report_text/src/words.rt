@@ -2,10 +2,10 @@
 ghost use Rattle.std.specs.Prelude.{◌≡◌, IfOk, string_bytes};
 ghost use Rattle.std.specs.Str.{IsAscii};
 ghost use Rattle.terrain_base.specs.SquareText.{square_text};
-ghost use Rattle.report_text.specs.Words.{level_number, number_or_dash};
+ghost use Rattle.report_text.specs.Words.{number_or_dash};
 
 use std::alloc::Global;
-use terrain_base::{CellLevel, NoMemory, Square};
+use terrain_base::{NoMemory, Square};
 
 // Seven bytes of ASCII as text.
 fn spelled(alloc: Global, bytes: &[u8; 7]) -> Result<String, NoMemory>
@@ -19,7 +19,7 @@ fn spelled(alloc: Global, bytes: &[u8; 7]) -> Result<String, NoMemory>
     Ok(word)
 }
 
-/// The text of a square.
+// The text of a square.
 pub(crate) fn square_word(alloc: Global, square: Square) -> Result<String, NoMemory>
     ensures { IfOk result (λ text. string_bytes text ≡ square_text square) }
 {
@@ -27,18 +27,7 @@ pub(crate) fn square_word(alloc: Global, square: Square) -> Result<String, NoMem
     spelled(alloc, &text)
 }
 
-/// The number of a level.
-pub(crate) fn level_word(level: CellLevel) -> u8
-    ensures { result ≡ level_number level }
-{
-    match level {
-        CellLevel::Zero => 0,
-        CellLevel::One => 1,
-        CellLevel::Two => 2,
-    }
-}
-
-/// A number, or a dash where there is none.
+// A number, or a dash where there is none.
 pub(crate) fn number_word(alloc: Global, number: Option<i16>) -> Result<String, NoMemory>
     ensures { IfOk result (λ text. string_bytes text ≡ number_or_dash number) }
 {
