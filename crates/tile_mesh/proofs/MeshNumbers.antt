@@ -259,7 +259,7 @@ some_triangle : (grid : List ℤ) (tol : ℕ) (kept : Side → List ℕ) → ((s
 some_triangle grid tol kept rises =
     let ts = triangles_of (is_split grid tol) kept in
     let held = (triangles_cover grid tol kept rises).full (pos 1) (pos 0) (pos 0) (omega (arith, ints)) south_west in
-    omega (arith, held.1.1.0, length-map ts (placed placing.place (placing.height grid)))
+    omega (arith, held.2, length-map ts (placed placing.place (placing.height grid)))
 
 pub numbered_law : (grid : List ℤ) (z : ℕ) → IsNumbered (mesh_of_grid grid z)
 unfolding mesh_of_grid
