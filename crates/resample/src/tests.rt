@@ -246,9 +246,8 @@ const HEIGHTS: [(u64, u64, u64, i16); 40] = [
     (536944004, 506343296, 536854528, 375),
 ];
 
-/// Cells of levels 0, 1 and 2 in the square n80e000, and one of level 1 west of it, whose last column is void. Level 2 has
-/// posts in the west alone, level 1 in the south alone.
-const LEVELS: [Plan; 4] = [
+/// A cell of level 0 in the square n80e000, and one of level 1 west of it, whose last column is void.
+const COARSEST: [Plan; 2] = [
     Plan {
         uhl: b"UHL10000000E0800000N18000300",
         counts: b"00210121",
@@ -262,6 +261,23 @@ const LEVELS: [Plan; 4] = [
         void_columns: 4000,
         void_rows: 4000,
     },
+    Plan {
+        uhl: b"UHL10010000W0800000N01800030",
+        counts: b"02011201",
+        series: b"DTED1",
+        columns: 201,
+        rows: 1201,
+        base: 900,
+        eastwards: 7,
+        northwards: 2,
+        void_every: 0,
+        void_columns: 200,
+        void_rows: 4000,
+    },
+];
+
+/// Cells of levels 1 and 2 in n80e000. Level 2 has posts in the west alone, level 1 in the south alone.
+const FINER: [Plan; 2] = [
     Plan {
         uhl: b"UHL10000000E0800000N01800030",
         counts: b"02011201",
@@ -286,19 +302,6 @@ const LEVELS: [Plan; 4] = [
         northwards: 3,
         void_every: 11,
         void_columns: 300,
-        void_rows: 4000,
-    },
-    Plan {
-        uhl: b"UHL10010000W0800000N01800030",
-        counts: b"02011201",
-        series: b"DTED1",
-        columns: 201,
-        rows: 1201,
-        base: 900,
-        eastwards: 7,
-        northwards: 2,
-        void_every: 0,
-        void_columns: 200,
         void_rows: 4000,
     },
 ];
@@ -417,7 +420,7 @@ fn build(alloc: Global, plan: &Plan) -> Result<Vec<u8>, AllocError> {
     Ok(cell)
 }
 
-/// Whether the plan's cell was added. Those of a square come by level, the coarsest first.
+/// Whether the plan's cell was added, to a square without cells.
 fn add(alloc: Global, cells: &mut WholeCells, plan: &Plan) -> bool {
     let Ok(text) = build(alloc, plan) else {
         return false;
@@ -425,12 +428,31 @@ fn add(alloc: Global, cells: &mut WholeCells, plan: &Plan) -> bool {
     let Ok(cell) = CellBytes::check(text) else {
         return false;
     };
-    match cells.shape(cell.view().square()) {
-        None => cells.put(cell).is_ok(),
-        Some(finest) => {
-            level_number(finest) < level_number(cell.view().level()) && cells.put(cell).is_ok()
-        }
+    if cells.shape(cell.view().square()).is_some() {
+        return false;
     }
+    cells.put(cell).is_ok()
+}
+
+/// Whether the plan's cell was added, to a square whose cells are all coarser.
+fn add_finer(alloc: Global, cells: &mut WholeCells, plan: &Plan) -> bool {
+    let Ok(text) = build(alloc, plan) else {
+        return false;
+    };
+    let Ok(cell) = CellBytes::check(text) else {
+        return false;
+    };
+    let view = cell.view();
+    let square = view.square();
+    let wanted = level_number(view.level());
+    let Some(finest) = cells.shape(square) else {
+        return false;
+    };
+    let found = level_number(finest);
+    if wanted <= found {
+        return false;
+    }
+    cells.put(cell).is_ok()
 }
 
 /// The height at the place of these numbers, over a fill of 5 metres below 0.
@@ -488,8 +510,11 @@ fn sum(grid: &Grid) -> i64 {
 #[test]
 fn voids_of_a_finer_cell_are_filled_from_the_coarser_ones(rt: HostRuntime) {
     let mut cells = WholeCells::new(rt.alloc());
-    for plan in LEVELS {
+    for plan in COARSEST {
         assert!(rt; add(rt.alloc(), &mut cells, &plan));
+    }
+    for plan in FINER {
+        assert!(rt; add_finer(rt.alloc(), &mut cells, &plan));
     }
     let mut store = SureStore::new(rt.alloc());
     for (p, q, want) in HEIGHTS_OVER_LEVELS {
