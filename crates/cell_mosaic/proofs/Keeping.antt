@@ -1,6 +1,7 @@
 -- Calls on a source, one after another: what all leave together, what a later one shows, and what it gives.
 use Rattle.std.proofs.Common.{◌≡◌, ◌≤◌, ℕ, Bool, List, Option, Some, None, refl, sym, ap, ◌∙◌, subst, arith}
 use Rattle.std.specs.Prelude.{Result, Ok, Err, IfSome, IsTrue, IsErrAnd}
+use Rattle.terrain_base.proofs.Causes.{rose_from}
 use Rattle.terrain_base.specs.Step.{Files}
 use Rattle.terrain_base.specs.declared.store.Change.{Change}
 use Rattle.cell_mosaic.specs.declared.fault.SourceFault.{SourceFault}
@@ -47,7 +48,7 @@ module _ {P : Type 0} {cells : P → Option Files → Option Cells} {shapes : P 
 cause_on : {T : Type 0} (before between now : ℕ) (result : Result T SourceFault) → before ≤ between → FaultHasCause between now result → FaultHasCause before now result
 cause_on before between now result rose cause = record {
   later = let later = cause.later in omega (arith, rose, later);
-  failed = λ is. let failed = cause.failed is in omega (arith, rose, failed);
+  failed = λ is. rose_from rose (cause.failed is);
 }
 
 marks_on : {T : Type 0} (before between now : Bool) (result : Result T SourceFault) → between ≡ before → Marks between now result → Marks before now result

@@ -1,6 +1,5 @@
 // All cells in memory.
-ghost use Rattle.std.specs.Prelude.{◌≡◌, ◌+◌, ◌<◌, ◌≤◌, false, length};
-ghost use Rattle.dted_cell.specs.Field.{word_at};
+ghost use Rattle.std.specs.Prelude.{◌≡◌, ◌<◌, false};
 ghost use Rattle.dted_cell.specs.Cell.{columns_in, rows_in, post_in};
 ghost use Rattle.dted_cell.specs.Trouble.{IsCellAt};
 ghost use Rattle.cell_mosaic.specs.Cells.{IsPost, first_level, coarser_levels};
@@ -26,26 +25,15 @@ fn key_of(cell: &CellBytes) -> CellKey
     }
 }
 
-/// The number of the two bytes at a place, the highest first.
-fn word(bytes: &[u8], at: usize) -> u16
-    requires { at + 2 ≤ length bytes.now }
-    ensures { result ≡ word_at bytes.now at }
-{
-    256 * u16::from(bytes[at]) + u16::from(bytes[at + 1])
-}
-
-/// The post of a column and a row. Its two bytes are read since they bound it.
+/// The post of a column and a row.
 fn post_of(cell: &CellBytes, col: u16, row: u16) -> Post
     requires col { col < columns_in cell.now }
     requires row { row < rows_in cell.now }
     ensures value { result ≡ post_in cell.now col row }
     ensures height { IsPost result }
 {
-    let _bytes = cell.bytes();
     let view = cell.view();
-    let profile = view.profile(col);
-    let _word = word(profile.bytes(), 2 * row as usize);
-    profile.post(row)
+    view.post(col, row)
 }
 
 /// Want of memory, with the cell that was to be put.
