@@ -1,0 +1,9 @@
+pub mod Steps
+pub mod Cuts
+pub mod Areas
+pub mod Gaps
+pub mod Raising
+pub mod Windows
+pub mod Bounds
+pub mod Boxes
+pub mod Triangles

@@ -1,0 +1,17 @@
+-- The two ends, by the steps before them.
+use Rattle.std.proofs.Common.{arith, rules, FitsSigned, w64}
+use Rattle.std.specs.Prelude.{pos, ◌+ℤ◌}
+use Rattle.std.proofs.lemmas.Int.{ints, to_z-of_z}
+use Rattle.lattice_sweep.proofs.Cuts.{cut_is}
+use Rattle.lattice_sweep.proofs.axis.Axis.cut.Goals as goal
+
+pub returns-clause-cut : goal.returns-clause-cut
+returns-clause-cut c =
+    let a = c.args.self.now in
+    let r1 = c.ranges.low in let r2 = c.ranges.high in
+    let f1 : FitsSigned w64 a.first = search rules in
+    let f2 : FitsSigned w64 a.step = search rules in
+    let f3 : FitsSigned w64 (c.args.high +ℤ pos 1) = omega (arith, ints, c.requires.high) in
+    let lo = simp to_z-of_z at c.before-2.ensures in
+    let hi = simp to_z-of_z at c.before-3.ensures in
+    simp to_z-of_z (cut_is a c.args.low c.args.high c.before-2.result c.before-3.result c.max-from.result c.min.result c.min-to.result lo hi c.max-from.ensures c.min.ensures c.min-to.ensures (omega arith))
