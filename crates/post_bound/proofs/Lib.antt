@@ -1,0 +1,13 @@
+pub mod Turns
+pub mod Far
+pub mod Levels
+pub mod Swept
+pub mod SweptWindows
+pub mod OneByOne
+pub mod Meshes
+pub mod Among
+pub mod Greatest
+pub mod Numbers
+pub mod Spans
+pub mod Extremes
+pub mod Local

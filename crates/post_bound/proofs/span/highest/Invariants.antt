@@ -1,0 +1,8 @@
+use Rattle.std.proofs.Common.{◌≡◌, pos, take, fold, map}
+use Rattle.std.specs.Prelude.{◌-ℤ◌}
+use Rattle.std.specs.Int.{int_max}
+use Rattle.tile_mesh.specs.declared.point.MeshPoint.{MeshPoint}
+use Rattle.post_bound.proofs.span.highest.Given as goal
+
+abbrev pub invariant-loop-point : goal.invariant-loop-point
+invariant-loop-point l = l.most ≡ fold int_max (pos 0 -ℤ pos 16000) (take l.point-index (map (λ (p : MeshPoint). p.metres) l.points))

@@ -1,0 +1,9 @@
+pub mod Posts
+pub mod Greatest
+pub mod Bound
+pub mod Span
+pub mod Rule
+pub mod Window
+pub mod Squares
+pub mod Swept
+pub mod Laws
