@@ -1,0 +1,5 @@
+pub mod Tile
+pub mod Seen
+pub mod Seams
+pub mod GoodTile
+pub mod Laws
