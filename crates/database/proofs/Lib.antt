@@ -1,0 +1,13 @@
+pub mod Among
+pub mod Command
+pub mod Given
+pub mod StateKept
+pub mod Local
+pub mod Openings
+pub mod Reading
+pub mod Rebuild
+pub mod Settled
+pub mod Standing
+pub mod Starting
+pub mod Tests
+pub mod Verdicts
