@@ -11,6 +11,7 @@ mod sphere;
 
 pub use hiding::horizon;
 pub use horizon_point::far_point;
+pub use scaled::{Vector, centre_of};
 pub use sphere::{Sphere, sphere_of};
 
 #[cfg(test)]

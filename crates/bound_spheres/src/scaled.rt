@@ -57,7 +57,7 @@ fn polar_high(n: i64) -> i64
     ceil_div(n as i128 * (SCALE * INVERSE_FLATTENING), SEMI_MINOR_AXIS) as i64
 }
 
-/// The scaled centre.
+/// The centre of a sphere in units of 2^-18 of the ellipsoid's axes, rounded down. Each number is within -2^21 to 2^21.
 pub fn centre_of(sphere: &Sphere) -> Vector
     requires { IsCentreWithin 33 sphere.now }
     ensures exact { result ≡ scaled_centre sphere.now }
@@ -70,7 +70,7 @@ pub fn centre_of(sphere: &Sphere) -> Vector
     }
 }
 
-/// The corners of the scaled box.
+/// The corners of a box in the same units, rounded outwards.
 pub fn corners_of(corners: &EcefBox) -> [Vector; 8]
     requires { IsBoxWithin 33 corners.now }
     ensures exact { result ≡ scaled_corners corners.now }

@@ -4,6 +4,7 @@ pub mod Candidates
 pub mod Cells
 pub mod Fault
 pub mod Source
+pub mod Summaries
 pub mod Value
 pub mod Whole
 pub mod WholeAgrees

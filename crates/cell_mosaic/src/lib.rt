@@ -22,4 +22,4 @@ pub use quad::Quad;
 pub use source::PostSource;
 pub use squares::SquareList;
 pub use value::{cell_value, coarser_value, posts_round};
-pub use whole::{NoRoom, WholeCells};
+pub use whole::{NoRoom, WholeCells, post_of};

@@ -25,8 +25,8 @@ fn key_of(cell: &CellBytes) -> CellKey
     }
 }
 
-/// The post of a column and a row.
-fn post_of(cell: &CellBytes, col: u16, row: u16) -> Post
+/// The post in a column from the west and a row from the south of the cell: void, or metres within -16000 to 16000.
+pub fn post_of(cell: &CellBytes, col: u16, row: u16) -> Post
     requires col { col < columns_in cell.now }
     requires row { row < rows_in cell.now }
     ensures value { result ≡ post_in cell.now col row }

@@ -31,7 +31,7 @@ use Rattle.post_bound.proofs.Local.{bound_is_local}
 use Rattle.tile_rule.proofs.Tiles as tile_files
 use Rattle.tile_deps.specs.Tiles.{touched}
 use Rattle.tile_deps.proofs.TileLists as tile_lists
-use Rattle.database.specs.Cells.{summary_of, summaries_of}
+use Rattle.cell_mosaic.specs.Summaries.{summary_of, summaries_of}
 use Rattle.database.specs.State.{State, tile_exists}
 use Rattle.database.specs.Commands.{existing}
 

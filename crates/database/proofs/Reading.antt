@@ -18,7 +18,7 @@ use Rattle.terrain_base.specs.declared.summary.Summary.{Summary}
 use Rattle.terrain_base.specs.CellKey.{key_cmp}
 use Rattle.terrain_base.specs.Step.{Files}
 use Rattle.cell_mosaic.specs.Cells.{Cells, IsSoundCell}
-use Rattle.database.specs.Cells.{summary_of, summaries_of}
+use Rattle.cell_mosaic.specs.Summaries.{summary_of, summaries_of}
 use Rattle.db_manifest.specs.Manifest.{manifest_text, IsManifest, fits_rows}
 use Rattle.db_manifest.proofs.Texts.{differ}
 use Rattle.database.specs.State.{State, IsState, ReadsAs, kept_under}

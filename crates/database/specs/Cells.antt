@@ -1,22 +1,11 @@
--- The cells of a state in short: its rows.
-use Rattle.std.specs.Prelude.{◌≡◌, ℕ, ◌≤◌, Bool, List, length, map}
-use Rattle.std.specs.FinMap.{entries}
+-- The rows of a database: its cells in short.
+use Rattle.std.specs.Prelude.{ℕ, ◌≤◌, Bool, List, length, map}
 use Rattle.std.specs.List.{list_any}
 use Rattle.std.specs.List.Sorted.{IsStrictlySortedBy}
 use Rattle.std.specs.Ordering.{eq_by_cmp}
 use Rattle.terrain_base.specs.declared.summary.Summary.{Summary}
 use Rattle.terrain_base.specs.declared.cell_key.CellKey.{CellKey}
 use Rattle.terrain_base.specs.CellKey.{key_at, key_cmp}
-use Rattle.dted_cell.specs.Cell.{extremes_in}
-use Rattle.cell_mosaic.specs.Cells.{Cells}
-
--- a cell in short
-abbrev pub summary_of : CellKey → List ℕ → Summary
-summary_of key bytes = record { square = key.square; level = key.level; extremes = extremes_in bytes }
-
--- all of them, in the order of keys
-abbrev pub summaries_of : Cells → List Summary
-summaries_of cells = map (λ entry. summary_of entry.0 entry.1) (entries cells)
 
 -- the key of a row
 abbrev pub row_key : Summary → CellKey

@@ -13,7 +13,7 @@ use Rattle.manifest_lines.specs.declared.state.State.TheVariants.{Closed, Put, D
 use Rattle.db_manifest.specs.Manifest.{manifest_text}
 use Rattle.tile_deps.specs.Tiles.{touched}
 use Rattle.tile_deps.specs.Tiles as tiles
-use Rattle.database.specs.Cells.{summaries_of}
+use Rattle.cell_mosaic.specs.Summaries.{summaries_of}
 use Rattle.database.specs.declared.answer.EngineAnswer.{EngineAnswer}
 use Rattle.database.specs.declared.answer.EngineAnswer.TheVariants.{CellPresent, CellAbsent, DatabaseFull}
 use Rattle.database.specs.State.{State, StandsFor, file_of, is_stage, tile_exists}

@@ -6,7 +6,7 @@ use Rattle.terrain_base.specs.declared.params.Params.{Params}
 use Rattle.terrain_base.specs.declared.summary.Summary.{Summary}
 use Rattle.terrain_base.specs.Step.{Files}
 use Rattle.cell_mosaic.specs.Cells.{Cells}
-use Rattle.database.specs.Cells.{summary_of}
+use Rattle.cell_mosaic.specs.Summaries.{summary_of}
 use Rattle.db_manifest.specs.Manifest.{ManifestState}
 use Rattle.database.specs.State.{State, kept_under}
 

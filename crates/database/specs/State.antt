@@ -14,7 +14,7 @@ use Rattle.cell_mosaic.specs.Cells.{Cells, AreSound}
 use Rattle.availability.specs.Existence.{exists_of}
 use Rattle.availability.specs.Layer.{layer_text_of}
 use Rattle.tile_rule.specs.Tile.{terrain_of, note_of}
-use Rattle.database.specs.Cells.{summaries_of}
+use Rattle.cell_mosaic.specs.Summaries.{summaries_of}
 use Rattle.manifest_lines.specs.declared.state.State.TheVariants.{Closed, Put, Drop, Rebuild}
 use Rattle.db_manifest.specs.Manifest.{ManifestState, manifest_text, fits_rows}
 

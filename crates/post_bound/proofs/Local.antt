@@ -16,7 +16,8 @@ use Rattle.tile_mesh.specs.Mesh.{Mesh}
 use Rattle.tile_mesh.specs.Plane.{triangles_in}
 use Rattle.post_bound.specs.Greatest.{greatest_of}
 use Rattle.post_bound.specs.Bound.{near, gap_of_cell, post_bound_of}
-use Rattle.post_bound.specs.Span.{least_metres, most_metres, span_of_extremes, span_of_cell, span_bound_of, summary_of, summaries_of}
+use Rattle.post_bound.specs.Span.{least_metres, most_metres, span_of_extremes, span_of_cell, span_bound_of}
+use Rattle.cell_mosaic.specs.Summaries.{summary_of, summaries_of}
 use Rattle.post_bound.specs.Rule.{bound_of}
 use Rattle.post_bound.specs.Laws.{AgreeNear, BoundIsLocalLaw}
 use Rattle.post_bound.proofs.Greatest.{greatest_map, greatest_without}

@@ -42,7 +42,8 @@ use Rattle.tile_mesh.proofs.VertexHeights.{heights_in_range}
 use Rattle.post_bound.specs.Posts.{HasPostAt}
 use Rattle.post_bound.specs.Greatest.{greatest_of}
 use Rattle.post_bound.specs.Bound.{KeepsBound, post_bound_of}
-use Rattle.post_bound.specs.Span.{least_metres, most_metres, or_zero, span_of_extremes, span_of_cell, span_bound_of, IsSpan, IsSpanBound, summary_of, summaries_of}
+use Rattle.post_bound.specs.Span.{least_metres, most_metres, or_zero, span_of_extremes, span_of_cell, span_bound_of, IsSpan, IsSpanBound}
+use Rattle.cell_mosaic.specs.Summaries.{summary_of, summaries_of}
 use Rattle.post_bound.specs.Rule.{bound_of}
 use Rattle.post_bound.specs.Laws.{SpanBoundLaw, SpanKeepsLaw, BoundKeepsLaw}
 use Rattle.post_bound.proofs.Among.{all_turning}

@@ -7,6 +7,7 @@ use Rattle.terrain_base.specs.declared.summary.Summary.{Summary}
 use Rattle.terrain_base.specs.Grid.{IsGrid}
 use Rattle.tms_tree.specs.Touch.{touches_of}
 use Rattle.cell_mosaic.specs.Cells.{Cells, AreSound}
+use Rattle.cell_mosaic.specs.Summaries.{summaries_of}
 use Rattle.mesh_plane.specs.declared.corner.Tri.{Tri}
 use Rattle.mesh_plane.specs.Plane.{IsCounterClockwise}
 use Rattle.tile_mesh.specs.Mesh.{Mesh, mesh_of_grid}
@@ -14,7 +15,7 @@ use Rattle.tile_mesh.specs.Plane.{triangles_in}
 use Rattle.lattice_sweep.specs.Bound.{IsRaisedBound}
 use Rattle.lattice_sweep.specs.Plane.{IsTerrainTri}
 use Rattle.post_bound.specs.Bound.{KeepsBound, IsPostBound, post_bound_of}
-use Rattle.post_bound.specs.Span.{IsSpanBound, span_bound_of, summaries_of}
+use Rattle.post_bound.specs.Span.{IsSpanBound, span_bound_of}
 use Rattle.post_bound.specs.Squares.{GapAmong, Everywhere}
 use Rattle.post_bound.specs.Rule.{bound_of}
 

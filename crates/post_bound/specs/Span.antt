@@ -1,14 +1,10 @@
 -- The error bound below level 8, by the extremes of cells and of the mesh.
 use Rattle.std.specs.Prelude.{◌≡◌, ◌⊎◌, ℕ, ℤ, pos, ◌-ℤ◌, ◌≤ℤ◌, ◌<◌, max, true, List, fold, map, Option, Some, None, int_le, unsigned_abs, All, Contains, if◌then◌else◌}
 use Rattle.std.specs.Int.{int_min, int_max}
-use Rattle.std.specs.FinMap.{entries}
-use Rattle.terrain_base.specs.declared.cell_key.CellKey.{CellKey}
 use Rattle.terrain_base.specs.declared.tile.TileId.{TileId}
 use Rattle.terrain_base.specs.declared.post.Extremes.{Extremes}
 use Rattle.terrain_base.specs.declared.summary.Summary.{Summary}
-use Rattle.dted_cell.specs.Cell.{extremes_in}
 use Rattle.tms_tree.specs.Touch.{touches_of}
-use Rattle.cell_mosaic.specs.Cells.{Cells}
 use Rattle.tile_mesh.specs.declared.point.MeshPoint.{MeshPoint}
 use Rattle.tile_mesh.specs.Mesh.{Mesh}
 use Rattle.post_bound.specs.Greatest.{greatest_of}
@@ -56,12 +52,3 @@ pub record IsSpan (summaries : List Summary) (tile : TileId) (mesh : Mesh) (n : 
 pub record IsSpanBound (summaries : List Summary) (tile : TileId) (mesh : Mesh) (bound : ℕ) : Type 0 where
   pub keeps : (n : ℤ) → IsSpan summaries tile mesh n → n ≤ℤ pos bound
   pub attained : (bound ≡ 0) ⊎ IsSpan summaries tile mesh (pos bound)
-
--- ---- the summaries of cells
-
-abbrev pub summary_of : CellKey → List ℕ → Summary
-summary_of key bytes = record { square = key.square; level = key.level; extremes = extremes_in bytes }
-
--- of all, in the order of keys
-abbrev pub summaries_of : Cells → List Summary
-summaries_of cells = map (λ entry. summary_of entry.0 entry.1) (entries cells)

@@ -13,4 +13,4 @@ mod triangles;
 mod window;
 
 pub use posts::post_bound;
-pub use span::span_bound;
+pub use span::{highest, lowest, span_bound};

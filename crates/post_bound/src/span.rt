@@ -7,8 +7,8 @@ use terrain_base::{Extremes, Summary, TileId};
 use tile_mesh::{MeshPoint, TileMesh};
 use tms_tree::touches;
 
-// The least height of vertices, at most 16000.
-fn lowest(points: &[MeshPoint]) -> i16
+/// The least height of vertices in metres; 16000 where there are none.
+pub fn lowest(points: &[MeshPoint]) -> i16
     ensures { result ≡ least_metres points.now }
 {
     let mut least = 16000;
@@ -18,8 +18,8 @@ fn lowest(points: &[MeshPoint]) -> i16
     least
 }
 
-// The greatest height of vertices, at least -16000.
-fn highest(points: &[MeshPoint]) -> i16
+/// The greatest height of vertices in metres; -16000 where there are none.
+pub fn highest(points: &[MeshPoint]) -> i16
     ensures { result ≡ most_metres points.now }
 {
     let mut most = -16000;
