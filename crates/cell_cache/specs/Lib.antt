@@ -1,0 +1,5 @@
+pub mod Cached
+pub mod CachedLaws
+pub mod Fetched
+pub mod Held
+pub mod Slot
