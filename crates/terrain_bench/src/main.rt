@@ -1,6 +1,7 @@
 //! The work that the benchmarks time. Its words are a kind of work and how often it is done; it prints the kind, the
 //! number, and a sum over all results. The kind `layer` prints the layer text of so many cells instead, and the kind
-//! `sample` how many triangles the meshes of so many grids have, and hashes of their vertices, triangles and edges.
+//! `sample` how many triangles the meshes of so many grids have, and hashes of their vertices, triangles and edges, and
+//! then how a grid over so many scattered cells asks for their posts.
 #![tactic(auto)]
 
 mod boxes;
@@ -8,6 +9,7 @@ mod grid_sample;
 mod grids;
 mod layers;
 mod meshes;
+mod scattered;
 
 use meshes::Kind;
 use std::alloc::Global;
@@ -15,12 +17,24 @@ use std::env;
 use std::io::{self, Write};
 use terrain_base::NoMemory;
 
+/// What is printed for a grid over so many scattered cells.
+fn scattered_line(alloc: Global, count: u32) -> Result<Vec<u8>, NoMemory> {
+    let Some(said) = scattered::of_cells(alloc, count)? else {
+        return Ok(Vec::new(alloc));
+    };
+    let (cells, asked, turns) = (said.cells, said.asked, said.turns);
+    let line = format!(in alloc; "scattered cells {cells} asked {asked} turns {turns}\n")?;
+    Ok(line.into_bytes())
+}
+
 /// What is printed for the meshes of so many grids.
 fn sample(alloc: Global, count: u32) -> Result<Vec<u8>, NoMemory> {
     let said = grid_sample::of_grids(alloc, count)?;
     let (points, triangles, edges) = (said.points, said.triangles, said.edges);
     let line = format!(in alloc; "{} triangles {points} {triangles} {edges}\n", said.count)?;
-    Ok(line.into_bytes())
+    let mut text = line.into_bytes();
+    text.extend_from_slice(&scattered_line(alloc, count)?)?;
+    Ok(text)
 }
 
 /// What is printed for so many results of this kind of work.
