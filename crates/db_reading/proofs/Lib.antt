@@ -1,0 +1,2 @@
+pub mod ManifestReads
+pub mod RowReads
