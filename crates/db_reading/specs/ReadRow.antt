@@ -40,12 +40,14 @@ IsRowTrouble files mark key NoMemory = Unit {0}
 -- ---- all rows
 
 -- up to a place the rows' cells are held, and these are they in short
-pub record AreRead (files : Files) (mark : ManifestState) (rows : List CellKey) (count : ℕ) (cells : List Summary) : Type 0 where
+pub record AreRead (files : Files) (mark : ManifestState) (rows : List CellKey) (count : ℕ)
+    (cells : List Summary) : Type 0 where
   pub kept : (n : ℕ) (key : CellKey) → n < count → slice_get rows n ≡ Some key → IsKept files mark key
   pub told : cells ≡ summaries_read files mark (take count rows)
 
 -- the trouble is with the first row whose cell is not held
-pub record IsFirstRow (files : Files) (mark : ManifestState) (rows : List CellKey) (trouble : CellTrouble) : Type 0 where
+pub record IsFirstRow (files : Files) (mark : ManifestState) (rows : List CellKey)
+    (trouble : CellTrouble) : Type 0 where
   pub place : ℕ
   pub row : CellKey
   pub row_is : slice_get rows place ≡ Some row

@@ -1,5 +1,5 @@
 -- The bound of a tile by its level.
-use Rattle.std.proofs.Common.{◌≡◌, ◌<◌, ◌≤◌, ℕ, List, sym, ap, ◌∙◌, arith, nat_lt, true, false, rules, refl}
+use Rattle.std.proofs.Common.{◌≡◌, ◌<◌, ◌≤◌, ℕ, List, ap, ◌∙◌, nat_lt, true, false, rules, refl}
 use Rattle.terrain_base.specs.declared.tile.TileId.{TileId}
 use Rattle.terrain_base.specs.declared.summary.Summary.{Summary}
 use Rattle.cell_mosaic.specs.Cells.{Cells}

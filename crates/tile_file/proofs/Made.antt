@@ -1,5 +1,5 @@
 -- What is made of the mesh of a tile is what the tile's files are.
-use Rattle.std.proofs.Common.{◌≡◌, ℕ, ℤ, List, Option, length, sym, ap, ◌∙◌}
+use Rattle.std.proofs.Common.{◌≡◌, ℕ, ℤ, List, Option, length, ap, ◌∙◌}
 use Rattle.terrain_base.specs.declared.params.Params.{Params}
 use Rattle.terrain_base.specs.declared.tile.TileId.{TileId}
 use Rattle.cell_mosaic.specs.Cells.{Cells}

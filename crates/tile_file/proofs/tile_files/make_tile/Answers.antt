@@ -1,4 +1,4 @@
-use Rattle.std.proofs.Common.{◌≡◌, Some, sym, ap, ◌∙◌}
+use Rattle.std.proofs.Common.{ap, ◌∙◌}
 use Rattle.tile_file.proofs.Made.{note_is, terrain_is}
 use Rattle.tile_file.proofs.tile_files.make_tile.Goals as goal
 
