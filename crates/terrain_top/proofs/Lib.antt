@@ -1,1 +1,2 @@
-pub mod FileReplies
+pub mod Fronts
+pub mod Meanings

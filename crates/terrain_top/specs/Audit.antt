@@ -1,18 +1,16 @@
 -- The reply to `audit`.
-use Rattle.std.specs.Prelude.{ℕ, List, [], ◌∷◌, codes, Option, Some, None}
+use Rattle.std.specs.Prelude.{ℕ, List, Option, Some, None}
 use Rattle.mesh_codec.specs.declared.refusal.TileRefusal.{TileRefusal}
 use Rattle.mesh_codec.specs.Refusal.{tile_refusal_of}
-use Rattle.report_text.specs.Words.{joined}
 use Rattle.report_text.specs.Tile.{audit_line_of}
 use Rattle.report_text.specs.TileRefusal.{tile_refusal_text_of}
-use Rattle.terrain_top.specs.declared.status.Status.TheVariants.{Done}
-use Rattle.terrain_top.specs.File.{refused, file_reply}
-use Rattle.terrain_top.specs.Reply.{Reply}
+use Rattle.terrain_top.specs.File.{file_reply}
+use Rattle.terrain_top.specs.Reply.{Reply, done_reply, refused_reply}
 
 -- the size of a good tile is told in one line
 abbrev pub tile_reply_by : List ℕ → Option TileRefusal → Reply
-tile_reply_by bytes None = record { status = Done; text = joined (audit_line_of bytes ∷ codes "\n" ∷ []) }
-tile_reply_by bytes (Some refusal) = refused (tile_refusal_text_of refusal)
+tile_reply_by bytes None = done_reply (audit_line_of bytes)
+tile_reply_by bytes (Some refusal) = refused_reply (tile_refusal_text_of refusal)
 
 abbrev pub tile_reply : List ℕ → Reply
 tile_reply bytes = tile_reply_by bytes (tile_refusal_of bytes)

@@ -1,18 +1,16 @@
 -- The reply to `cell`.
-use Rattle.std.specs.Prelude.{ℕ, List, [], ◌∷◌, codes, Option, Some, None}
+use Rattle.std.specs.Prelude.{ℕ, List, Option, Some, None}
 use Rattle.dted_cell.specs.declared.refusal.CellRefusal.{CellRefusal}
 use Rattle.dted_cell.specs.Refusal.{refusal_of}
-use Rattle.report_text.specs.Words.{joined}
 use Rattle.report_text.specs.Cell.{cell_line_of}
 use Rattle.report_text.specs.Refusal.{cell_refusal_of}
-use Rattle.terrain_top.specs.declared.status.Status.TheVariants.{Done}
-use Rattle.terrain_top.specs.File.{refused, file_reply}
-use Rattle.terrain_top.specs.Reply.{Reply}
+use Rattle.terrain_top.specs.File.{file_reply}
+use Rattle.terrain_top.specs.Reply.{Reply, done_reply, refused_reply}
 
 -- a good cell is told in one line
 abbrev pub read_reply_by : List ℕ → Option CellRefusal → Reply
-read_reply_by bytes None = record { status = Done; text = joined (cell_line_of bytes ∷ codes "\n" ∷ []) }
-read_reply_by bytes (Some refusal) = refused (cell_refusal_of refusal)
+read_reply_by bytes None = done_reply (cell_line_of bytes)
+read_reply_by bytes (Some refusal) = refused_reply (cell_refusal_of refusal)
 
 abbrev pub read_reply : List ℕ → Reply
 read_reply bytes = read_reply_by bytes (refusal_of bytes)

@@ -1,8 +1,8 @@
 pub mod Audit
 pub mod Cell
+pub mod Effects
 pub mod File
-pub mod Meant
 pub mod Reply
+pub mod Run
 pub mod Status
 pub mod Top
-pub mod Words

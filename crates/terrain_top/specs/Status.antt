@@ -1,5 +1,9 @@
 -- The statuses of a run.
-use Rattle.std.specs.Prelude.{ℕ}
+use Rattle.std.specs.Prelude.{ℕ, Result, Ok, Err}
+use Rattle.terrain_top.specs.declared.answer.Ending.{Ending}
+use Rattle.terrain_top.specs.declared.answer.Ending.TheVariants as ending
+use Rattle.terrain_top.specs.declared.stop.Stop.{Stop}
+use Rattle.terrain_top.specs.declared.stop.Stop.TheVariants as stop
 use Rattle.terrain_top.specs.declared.status.Status.{Status}
 use Rattle.terrain_top.specs.declared.status.Status.TheVariants.{Done, Refused, Usage, InputFault, StoreFault, OutputFault, NoMemory, Found}
 
@@ -25,13 +29,19 @@ IsAnswer OutputFault = ⊥
 IsAnswer NoMemory = ⊥
 IsAnswer Found = Unit {0}
 
--- the statuses of a command that was carried out or refused
-abbrev pub IsDoneOrRefused : Status → Type 0
-IsDoneOrRefused Done = Unit {0}
-IsDoneOrRefused Refused = Unit {0}
-IsDoneOrRefused Usage = ⊥
-IsDoneOrRefused InputFault = ⊥
-IsDoneOrRefused StoreFault = ⊥
-IsDoneOrRefused OutputFault = ⊥
-IsDoneOrRefused NoMemory = ⊥
-IsDoneOrRefused Found = ⊥
+-- the status of a command that was not stopped
+abbrev pub status_at : Ending → Status
+status_at ending.Done = Done
+status_at ending.Refused = Refused
+
+-- the status of a run that was stopped
+abbrev pub stop_status : Stop → Status
+stop_status stop.Input = InputFault
+stop_status stop.Store = StoreFault
+stop_status stop.Output = OutputFault
+stop_status stop.NoMemory = NoMemory
+
+-- the status of a run of a command that ended so
+abbrev pub status_by : Result Ending Stop → Status
+status_by (Ok end) = status_at end
+status_by (Err e) = stop_status e

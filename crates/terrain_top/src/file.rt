@@ -2,18 +2,17 @@
 ghost use Rattle.std.specs.Prelude.{◌≡◌, IfOk, IfSome};
 ghost use Rattle.std.specs.FinMap as map;
 ghost use Rattle.terrain_base.specs.Library.{Fetches};
-ghost use Rattle.terrain_top.specs.File.{Opens, IsRefusal};
-ghost use Rattle.terrain_top.specs.Reply.{StopHasCause};
+ghost use Rattle.terrain_top.specs.Effects.{Asks};
+ghost use Rattle.terrain_top.specs.File.{IsRefusal, Opens};
 
-use crate::Status;
-use crate::answer::Answer;
+use crate::answer::{Answer, refused};
 use crate::stop::Stop;
 use std::alloc::Global;
 use terrain_base::{DeviceFault, Fetched, Library};
 
 /// A file that was asked for.
 #[derive(Debug, Drop)]
-pub(crate) enum Opened {
+pub(crate) enum FileRead {
     /// Its bytes, no more than the limit.
     Bytes(Vec<u8>),
     /// What the command comes to, since the file is absent or too long.
@@ -23,8 +22,7 @@ pub(crate) enum Opened {
 // The file outside.
 fn fetch<Li: Library>(files: &mut Li, file: &str, limit: usize) -> Result<Fetched, Stop>
     ensures fetched { IfOk result (λ fetched. IfSome (Li.holds files.old) (λ held. Fetches fetched (map.get held file.now) limit)) }
-    ensures same { Li.holds files.new ≡ Li.holds files.old }
-    ensures cause { StopHasCause (Li.faults files.old) (Li.faults files.new) result }
+    ensures asks { Asks Li.holds Li.faults files.old files.new result }
 {
     match files.fetch(file, limit) {
         Ok(fetched) => Ok(fetched),
@@ -39,27 +37,20 @@ pub(crate) fn open_file<Li: Library>(
     files: &mut Li,
     file: &str,
     limit: usize,
-) -> Result<Opened, Stop>
-    ensures opens { IfOk result (λ opened. IfSome (Li.holds files.old) (λ held. Opens file.now limit (map.get held file.now) opened)) }
-    ensures status { IfOk result IsRefusal }
-    ensures same { Li.holds files.new ≡ Li.holds files.old }
-    ensures cause { StopHasCause (Li.faults files.old) (Li.faults files.new) result }
+) -> Result<FileRead, Stop>
+    ensures opens { IfOk result (λ read. IfSome (Li.holds files.old) (λ held. Opens file.now limit (map.get held file.now) read)) }
+    ensures refusal { IfOk result IsRefusal }
+    ensures asks { Asks Li.holds Li.faults files.old files.new result }
 {
     match fetch(files, file, limit)? {
-        Fetched::Bytes(bytes) => Ok(Opened::Bytes(bytes)),
+        Fetched::Bytes(bytes) => Ok(FileRead::Bytes(bytes)),
         Fetched::Absent => {
-            let text = format!(in alloc; "refused F1 absent {file}\n")?;
-            Ok(Opened::Refused(Answer {
-                status: Status::Refused,
-                text,
-            }))
+            let cause = format!(in alloc; "F1 absent {file}")?;
+            Ok(FileRead::Refused(refused(alloc, &cause)?))
         }
         Fetched::TooLong => {
-            let text = format!(in alloc; "refused F2 too long {file} limit {limit}\n")?;
-            Ok(Opened::Refused(Answer {
-                status: Status::Refused,
-                text,
-            }))
+            let cause = format!(in alloc; "F2 too long {file} limit {limit}")?;
+            Ok(FileRead::Refused(refused(alloc, &cause)?))
         }
     }
 }

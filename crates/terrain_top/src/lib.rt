@@ -4,13 +4,22 @@
 mod answer;
 mod audit;
 mod cell;
+mod change;
+mod database_command;
+#[cfg(test)]
+mod database_tests;
+mod edit;
+mod engine_answer;
 mod file;
+mod print;
+mod query;
+mod script;
 mod status;
 mod stop;
 #[cfg(test)]
 mod tests;
 mod top;
-mod words;
+mod trial;
 
 pub use status::Status;
 pub use top::run;

@@ -1,6 +1,9 @@
 // How a run ended.
 ghost use Rattle.std.specs.Prelude.{◌≡◌};
-ghost use Rattle.terrain_top.specs.Status.{code_of};
+ghost use Rattle.terrain_top.specs.Status.{code_of, status_by, stop_status};
+
+use crate::answer::Ending;
+use crate::stop::Stop;
 
 /// How a run of the program ended.
 #[derive(Clone, Copy, Debug, PartialEq, Eq)]
@@ -38,5 +41,28 @@ impl Status {
             Status::NoMemory => 6,
             Status::Found => 7,
         }
+    }
+}
+
+// The status of a run that was stopped.
+pub(crate) fn status_of_stop(stop: Stop) -> Status
+    ensures { result ≡ stop_status stop }
+{
+    match stop {
+        Stop::Input => Status::InputFault,
+        Stop::Store => Status::StoreFault,
+        Stop::Output => Status::OutputFault,
+        Stop::NoMemory => Status::NoMemory,
+    }
+}
+
+// The status of a run of a command that ended so.
+pub(crate) fn status_of(ended: Result<Ending, Stop>) -> Status
+    ensures { result ≡ status_by ended }
+{
+    match ended {
+        Ok(Ending::Done) => Status::Done,
+        Ok(Ending::Refused) => Status::Refused,
+        Err(stop) => status_of_stop(stop),
     }
 }

@@ -10,6 +10,10 @@ use terrain_base::NoMemory;
 pub(crate) enum Stop {
     /// The library failed.
     Input,
+    /// The store failed.
+    Store,
+    /// The sink failed.
+    Output,
     /// Memory was refused.
     NoMemory,
 }

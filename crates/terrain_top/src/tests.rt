@@ -9,17 +9,17 @@ use terrain_base::{
 
 // A level 0 cell: what its header says, how many meridians it has, and the word of all posts but one.
 #[derive(Clone, Copy)]
-struct Sample {
+pub(crate) struct Sample {
     origin: [u8; 16],
     interval: [u8; 4],
     counts: [u8; 8],
     columns: u8,
-    word: u16,
+    pub(crate) word: u16,
     other_at: (u8, u8),
-    other_word: u16,
+    pub(crate) other_word: u16,
 }
 
-const FLAT: Sample = Sample {
+pub(crate) const FLAT: Sample = Sample {
     origin: *b"0000000E0000000N",
     interval: *b"0300",
     counts: *b"01210121",
@@ -68,7 +68,7 @@ impl Sample {
         Ok(bytes)
     }
 
-    fn bytes(&self, alloc: Global) -> Result<Vec<u8>, AllocError> {
+    pub(crate) fn bytes(&self, alloc: Global) -> Result<Vec<u8>, AllocError> {
         let mut bytes = self.header(alloc)?;
         for column in 0..self.columns {
             bytes.extend_from_slice(&self.record(alloc, column)?)?;
@@ -77,7 +77,7 @@ impl Sample {
     }
 }
 
-fn words(alloc: Global, words: &[&str]) -> Result<Vec<String>, AllocError> {
+pub(crate) fn words(alloc: Global, words: &[&str]) -> Result<Vec<String>, AllocError> {
     let mut all = Vec::new(alloc);
     for word in words {
         all.push(String::from_str(alloc, word)?)?;
@@ -232,7 +232,8 @@ fn absent_and_long_files_and_other_words_are_refused(rt: HostRuntime) -> Result<
     let alloc = rt.alloc();
     let mut files = SureLibrary::new(alloc);
     files.hold("long", vec![in alloc; 0u8; 33_554_433]?.as_slice())?;
-    let usage = "usage: terrain DIR cell FILE | audit FILE\n";
+    let usage =
+        "usage: terrain DIR init CAP FILL | add FILE | replace FILE | remove SQUARE V | apply SCRIPT | rebuild | list | inspect Z X Y | deps Z X Y | cell FILE | audit FILE | trial COUNT NUMBER\n";
     let table = [
         (
             words(alloc, &[".", "cell", "absent.dt0"])?,

@@ -1,46 +1,140 @@
 // The call that does all that the program does.
-ghost use Rattle.std.specs.Prelude.{◌≡◌, ◌≢◌, ◌≤◌, ◌↔◌, IfOk, IfSome, IsSome, IsNone, IsErrOf, Some, ◌++◌, map, string_bytes};
-ghost use Rattle.terrain_base.specs.Cause.{Rose};
+ghost use Rattle.std.specs.Prelude.{◌≡◌, ◌≢◌, ◌≤◌, ◌↔◌, ◌⊎◌, true, false, IfOk, IfSome, IsErrOf, OnErr, Option, Some, None, option_map, map, string_bytes};
 ghost use Rattle.terrain_base.specs.Sink.{IsFront};
-ghost use Rattle.terrain_top.specs.Reply.{Says, StopHasCause};
-ghost use Rattle.terrain_top.specs.Status.{IsAnswer};
-ghost use Rattle.terrain_top.specs.Top.{reply_to};
-ghost use Rattle.terrain_top.specs.Words.{command_of};
+ghost use Rattle.terrain_top.specs.Effects.{StopHasCause, StoreStays};
+ghost use Rattle.terrain_top.specs.Reply.{Says};
+ghost use Rattle.terrain_top.specs.Run.{Answers, Begins, FaultHasCause, Prints};
+ghost use Rattle.terrain_top.specs.Status.{IsAnswer, status_at};
+ghost use Rattle.terrain_top.specs.Top.{IsMeant, makes_tiles, reads_file, reply_to, touches_store, usage_reply, usage_text};
+ghost use Rattle.top_words.specs.Meant.{meant};
+ghost use Rattle.top_words.specs.Words as spelled;
 
 use crate::Status;
-use crate::answer::Answer;
+use crate::answer::{Answer, Ending};
 use crate::audit::answer_to_audit;
 use crate::cell::answer_to_cell;
+use crate::change::answer_to_init;
+use crate::database_command::answer_to_database;
+use crate::print::print;
+use crate::status::{status_of, status_of_stop};
 use crate::stop::Stop;
-use crate::words::{Command, USAGE, command_in};
+use crate::trial::answer_to_trial;
 use std::alloc::Global;
-use terrain_base::{DeviceFault, Library, Sink, Store, Work};
+use terrain_base::{Library, Sink, Store, Work};
+use top_words::{Command, command_in};
 
-// What the words come to, before anything is printed.
-fn answer_to<Li: Library>(alloc: Global, words: &[String], files: &mut Li) -> Result<Answer, Stop>
-    ensures reply { IfOk result (λ answer. IfSome (Li.holds files.old) (λ held. Says (reply_to (map string_bytes words.now) held) answer)) }
-    ensures answers { IfOk result (λ answer. IsAnswer answer.status × (answer.status ≢ Status.Found)) }
-    ensures usage { IfOk result (λ answer. (answer.status ≡ Status.Usage) ↔ IsNone (command_of (map string_bytes words.now))) }
-    ensures input { IsErrOf result Stop.Input → IsSome (command_of (map string_bytes words.now)) }
+/// What is printed where the words are no command.
+const USAGE: &str =
+    "usage: terrain DIR init CAP FILL | add FILE | replace FILE | remove SQUARE V | apply SCRIPT | rebuild | list | inspect Z X Y | deps Z X Y | cell FILE | audit FILE | trial COUNT NUMBER\n";
+
+// Does a command. Its last text is handed back.
+fn answer_to<St: Store, Li: Library, Si: Sink>(
+    alloc: Global,
+    command: &Command<'_>,
+    store: &mut St,
+    files: &mut Li,
+    out: &mut Si,
+    work: &mut Work,
+) -> Result<Answer, Stop>
+    ensures says { IfOk result (λ answer. IfSome (Li.holds files.old) (λ held. IfSome (reply_to (Some (meant command.now)) held) (λ reply. Says reply answer))) }
+    ensures quiet { touches_store (Some (meant command.now)) ≡ false → Si.taken out.new ≡ Si.taken out.old }
+    ensures untouched { touches_store (Some (meant command.now)) ≡ false → StoreStays St.holds St.log St.faults store.old store.new }
+    ensures idle { makes_tiles (Some (meant command.now)) ≡ false → work.new ≡ work.old }
+    ensures reads { IsErrOf result Stop.Input → reads_file (Some (meant command.now)) ≡ true }
+    ensures touches { IsErrOf result Stop.Store → touches_store (Some (meant command.now)) ≡ true }
     ensures same { Li.holds files.new ≡ Li.holds files.old }
-    ensures cause { StopHasCause (Li.faults files.old) (Li.faults files.new) result }
+    ensures library { StopHasCause Stop.Input (Li.faults files.old) (Li.faults files.new) result }
+    ensures store { StopHasCause Stop.Store (St.faults store.old) (St.faults store.new) result }
+    ensures sink { StopHasCause Stop.Output (Si.faults out.old) (Si.faults out.new) result }
+    ensures more { work.old ≤ work.new }
 {
-    match command_in(words) {
-        Some(Command::Cell { file }) => answer_to_cell(alloc, files, file),
-        Some(Command::Audit { file }) => answer_to_audit(alloc, files, file),
-        None => {
-            let text = String::from_str(alloc, USAGE)?;
-            Ok(Answer {
-                status: Status::Usage,
-                text,
-            })
-        }
+    match command {
+        Command::Init { params } => answer_to_init(alloc, store, *params, work),
+        Command::Database(command) => answer_to_database(alloc, store, files, out, command, work),
+        Command::Cell { file } => answer_to_cell(alloc, files, file),
+        Command::Audit { file } => answer_to_audit(alloc, files, file),
+        Command::Trial { count, number } => answer_to_trial(alloc, *count, *number, work),
     }
 }
 
-/// Does what the words say, puts the report on the sink and tells how it ended. The first word is
-/// the database's folder, which the caller used already. A report's line is put after its command is
-/// done.
+// Does a command, and prints its last text.
+fn run_command<St: Store, Li: Library, Si: Sink>(
+    alloc: Global,
+    command: &Command<'_>,
+    store: &mut St,
+    files: &mut Li,
+    out: &mut Si,
+    work: &mut Work,
+) -> Result<Ending, Stop>
+    ensures says { IfOk result (λ ending. IfSome (Li.holds files.old) (λ held. IfSome (reply_to (Some (meant command.now)) held) (λ reply. Prints reply (status_at ending) (Si.taken out.old) (Si.taken out.new)))) }
+    ensures front { OnErr result (IfSome (Li.holds files.old) (λ held. IfSome (reply_to (Some (meant command.now)) held) (λ reply. IfSome (Si.taken out.old) (λ taken. IsFront taken reply.text (Si.taken out.new))))) }
+    ensures untouched { touches_store (Some (meant command.now)) ≡ false → StoreStays St.holds St.log St.faults store.old store.new }
+    ensures idle { makes_tiles (Some (meant command.now)) ≡ false → work.new ≡ work.old }
+    ensures reads { IsErrOf result Stop.Input → reads_file (Some (meant command.now)) ≡ true }
+    ensures touches { IsErrOf result Stop.Store → touches_store (Some (meant command.now)) ≡ true }
+    ensures same { Li.holds files.new ≡ Li.holds files.old }
+    ensures library { StopHasCause Stop.Input (Li.faults files.old) (Li.faults files.new) result }
+    ensures store { StopHasCause Stop.Store (St.faults store.old) (St.faults store.new) result }
+    ensures sink { StopHasCause Stop.Output (Si.faults out.old) (Si.faults out.new) result }
+    ensures more { work.old ≤ work.new }
+{
+    let answer = answer_to(alloc, command, store, files, out, work)?;
+    print(out, &answer.text)?;
+    Ok(answer.ending)
+}
+
+// Says how the program is used.
+fn run_usage<Si: Sink>(out: &mut Si) -> Status
+    ensures prints { IsAnswer result → Prints usage_reply result (Si.taken out.old) (Si.taken out.new) }
+    ensures front { IfSome (Si.taken out.old) (λ taken. IsFront taken usage_text (Si.taken out.new)) }
+    ensures sink { FaultHasCause Status.OutputFault (Si.faults out.old) (Si.faults out.new) result }
+    ensures only { (result ≡ Status.Usage) ⊎ (result ≡ Status.OutputFault) ⊎ (result ≡ Status.NoMemory) }
+{
+    match print(out, USAGE.as_bytes()) {
+        Ok(()) => Status::Usage,
+        Err(stop) => status_of_stop(stop),
+    }
+}
+
+// Does what was meant.
+fn run_meant<St: Store, Li: Library, Si: Sink>(
+    alloc: Global,
+    command: Option<Command<'_>>,
+    store: &mut St,
+    files: &mut Li,
+    out: &mut Si,
+    work: &mut Work,
+) -> Status
+    ensures answers { Answers (option_map meant command.entry) (Li.holds files.old) result (Si.taken out.old) (Si.taken out.new) }
+    ensures begins { Begins (option_map meant command.entry) (Li.holds files.old) (Si.taken out.old) (Si.taken out.new) }
+    ensures usage { IsAnswer result → ((result ≡ Status.Usage) ↔ (option_map meant command.entry ≡ None)) }
+    ensures never { result ≢ Status.Found }
+    ensures reads { result ≡ Status.InputFault → reads_file (option_map meant command.entry) ≡ true }
+    ensures touches { result ≡ Status.StoreFault → touches_store (option_map meant command.entry) ≡ true }
+    ensures untouched { touches_store (option_map meant command.entry) ≡ false → StoreStays St.holds St.log St.faults store.old store.new }
+    ensures idle { makes_tiles (option_map meant command.entry) ≡ false → work.new ≡ work.old }
+    ensures same { Li.holds files.new ≡ Li.holds files.old }
+    ensures library { FaultHasCause Status.InputFault (Li.faults files.old) (Li.faults files.new) result }
+    ensures store { FaultHasCause Status.StoreFault (St.faults store.old) (St.faults store.new) result }
+    ensures sink { FaultHasCause Status.OutputFault (Si.faults out.old) (Si.faults out.new) result }
+    ensures more { work.old ≤ work.new }
+{
+    match command {
+        Some(command) => status_of(run_command(alloc, &command, store, files, out, work)),
+        None => run_usage(out),
+    }
+}
+
+// The command that the words spell.
+fn command_of(words: &[String]) -> Option<Command<'_>>
+    ensures means { IsMeant (map string_bytes words.now) (option_map meant result) }
+    ensures one { (meaning : Option spelled.Command) → IsMeant (map string_bytes words.now) meaning → meaning ≡ option_map meant result }
+{
+    command_in(words)
+}
+
+/// Does what the words say, puts the report on the sink and tells how it ended. The first word is the database's folder,
+/// which the caller used already. A report's line is put after its command is done.
 pub fn run<St: Store, Li: Library, Si: Sink>(
     alloc: Global,
     words: &[String],
@@ -49,37 +143,33 @@ pub fn run<St: Store, Li: Library, Si: Sink>(
     out: &mut Si,
     work: &mut Work,
 ) -> Status
-    // Where it went to its end, the status and the text are those of the reply.
-    ensures status { IsAnswer result → IfSome (Li.holds files.old) (λ held. result ≡ (reply_to (map string_bytes words.now) held).status) }
-    ensures text { IsAnswer result → IfSome (Li.holds files.old) (λ held. IfSome (Si.taken out.old) (λ taken. Si.taken out.new ≡ Some (taken ++ (reply_to (map string_bytes words.now) held).text))) }
+    // Where the library alone decides the reply, a run that went to its end has its status and printed its text.
+    ensures answers { (meaning : Option spelled.Command) → IsMeant (map string_bytes words.now) meaning → Answers meaning (Li.holds files.old) result (Si.taken out.old) (Si.taken out.new) }
 
     // Whatever stopped it, the sink took no more than some first bytes of that text.
-    ensures front { IfSome (Li.holds files.old) (λ held. IfSome (Si.taken out.old) (λ taken. IsFront taken (reply_to (map string_bytes words.now) held).text (Si.taken out.new))) }
+    ensures begins { (meaning : Option spelled.Command) → IsMeant (map string_bytes words.now) meaning → Begins meaning (Li.holds files.old) (Si.taken out.old) (Si.taken out.new) }
 
     // 'Usage' is the answer exactly where the words are no command.
-    ensures usage { IsAnswer result → ((result ≡ Status.Usage) ↔ IsNone (command_of (map string_bytes words.now))) }
+    ensures usage { IsAnswer result → ((result ≡ Status.Usage) ↔ IsMeant (map string_bytes words.now) None) }
 
-    // A fault comes only where its count rose; no file is asked for where the words are no command.
-    ensures input { result ≡ Status.InputFault → Rose (Li.faults files.old) (Li.faults files.new) × IsSome (command_of (map string_bytes words.now)) }
-    ensures output { result ≡ Status.OutputFault → Rose (Si.faults out.old) (Si.faults out.new) }
+    // No command so far finds something amiss.
+    ensures never { result ≢ Status.Found }
 
-    // The library keeps what it holds, and no count of faults falls.
-    ensures files { (Li.holds files.new ≡ Li.holds files.old) × (Li.faults files.old ≤ Li.faults files.new) }
-    ensures sink { Si.faults out.old ≤ Si.faults out.new }
+    // A fault comes only where its count rose, and no count falls. No file is asked for and no store is touched but by
+    // commands that do so.
+    ensures library { FaultHasCause Status.InputFault (Li.faults files.old) (Li.faults files.new) result }
+    ensures reads { result ≡ Status.InputFault → (meaning : Option spelled.Command) → IsMeant (map string_bytes words.now) meaning → reads_file meaning ≡ true }
+    ensures store { FaultHasCause Status.StoreFault (St.faults store.old) (St.faults store.new) result }
+    ensures touches { result ≡ Status.StoreFault → (meaning : Option spelled.Command) → IsMeant (map string_bytes words.now) meaning → touches_store meaning ≡ true }
+    ensures sink { FaultHasCause Status.OutputFault (Si.faults out.old) (Si.faults out.new) result }
 
-    // No command so far touches the store, makes a tile or finds something amiss.
-    ensures store { (St.holds store.new ≡ St.holds store.old) × (St.log store.new ≡ St.log store.old) × (St.faults store.new ≡ St.faults store.old) }
-    ensures work { work.new ≡ work.old }
-    ensures never { (result ≢ Status.StoreFault) × (result ≢ Status.Found) }
+    // The library keeps what it holds, and so does a store that the command does not touch.
+    ensures same { Li.holds files.new ≡ Li.holds files.old }
+    ensures untouched { (meaning : Option spelled.Command) → IsMeant (map string_bytes words.now) meaning → touches_store meaning ≡ false → StoreStays St.holds St.log St.faults store.old store.new }
+
+    // The count of made tiles never falls, and stays where the command makes none.
+    ensures more { work.old ≤ work.new }
+    ensures idle { (meaning : Option spelled.Command) → IsMeant (map string_bytes words.now) meaning → makes_tiles meaning ≡ false → work.new ≡ work.old }
 {
-    let answer = match answer_to(alloc, words, files) {
-        Ok(answer) => answer,
-        Err(Stop::Input) => return Status::InputFault,
-        Err(Stop::NoMemory) => return Status::NoMemory,
-    };
-    match out.put(answer.text.as_bytes()) {
-        Ok(()) => answer.status,
-        Err(DeviceFault::Failed) => Status::OutputFault,
-        Err(DeviceFault::NoMemory) => Status::NoMemory,
-    }
+    run_meant(alloc, command_of(words), store, files, out, work)
 }

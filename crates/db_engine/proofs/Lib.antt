@@ -1,0 +1,7 @@
+pub mod CellRows
+pub mod EditReads
+pub mod EditsEnd
+pub mod Passing
+pub mod RowLists
+pub mod Settles
+pub mod Starts

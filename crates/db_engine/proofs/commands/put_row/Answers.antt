@@ -1,0 +1,104 @@
+use Rattle.std.proofs.Common.{refl, sym, ap, subst, ◌∙◌}
+use Rattle.terrain_base.proofs.Runs.{both_done, goes_on, stops, not_yet, at_ok, at_err, some_as, all_as}
+use Rattle.database.specs.Cells.{AreRows, row_key, has_row}
+use Rattle.database.specs.Commands.{PutCell, after}
+use Rattle.std.specs.Prelude.{true}
+use Rattle.db_engine.specs.Opened.{contents_of}
+use Rattle.db_engine.specs.Rows.{HasRoom, with_row}
+use Rattle.db_engine.proofs.EditsEnd.{put_opening, put_closing, put_rows_are, sound_after}
+use Rattle.db_engine.proofs.Passing.{same_stop, turned_off}
+use Rattle.db_engine.proofs.commands.put_row.Goals as goal
+
+pub with_row-requires-clause-rows : goal.with_row-requires-clause-rows
+with_row-requires-clause-rows g c = subst AreRows (sym c.summaries.ensures.value) c.summaries.ensures.rows
+
+pub with_row-requires-clause-room : goal.with_row-requires-clause-room
+with_row-requires-clause-room g c =
+    subst (λ rows. HasRoom rows (row_key c.args.row)) (sym (c.summaries.ensures.value ∙ ap (λ o. o.rows) c.begin.ensures))
+    (subst (λ k. HasRoom c.args.opened.now.rows k) (sym (ap row_key c.requires.row)) c.requires.room)
+
+pub put_marked-requires-clause-there : goal.put_marked-requires-clause-there
+put_marked-requires-clause-there g c =
+    ap (λ rows. has_row rows c.args.key) c.deref.ensures.value ∙ ap (has_row c.in_ok-rows.rows.items) (sym (ap row_key c.requires.row)) ∙ c.in_ok-rows.ensures.there
+
+pub returns-in_err-rows-clause-ran : goal.returns-in_err-rows-clause-ran
+returns-in_err-rows-clause-ran g c = λ s h. at_err c.from_residual.result _ c.from_residual.ensures.1 (not_yet refl refl)
+
+pub returns-in_err-rows-clause-turned : goal.returns-in_err-rows-clause-turned
+returns-in_err-rows-clause-turned g c = turned_off _ _ _ c.from_residual.result _ c.from_residual.ensures.1 c.begin.ensures
+
+pub returns-in_err-put_marked-clause-ran : goal.returns-in_err-put_marked-clause-ran
+returns-in_err-put_marked-clause-ran g c = λ s h.
+    let edit = PutCell c.args.key c.args.bytes.now in
+    let same = c.summaries.ensures.value ∙ ap (λ o. o.rows) c.begin.ensures in
+    let rows = put_rows_are s c.args.key c.args.bytes.now c.args.row _ _ h c.requires.row same c.in_ok-rows.ensures.value in
+    let params = c.params-params.ensures ∙ ap (λ o. o.params) c.begin.ensures ∙ h.params_is in
+    let opening = put_opening s c.args.key c.args.bytes.now _ _ params (c.deref.ensures.value ∙ rows) in
+    at_err c.from_residual-in_err-put_marked.result _ c.from_residual-in_err-put_marked.ensures.1 (stops _ (some_as opening c.in_err-put_marked.ensures.ran.err))
+
+pub returns-in_err-put_marked-clause-turned : goal.returns-in_err-put_marked-clause-turned
+returns-in_err-put_marked-clause-turned g c = turned_off _ _ _ c.from_residual-in_err-put_marked.result _ c.from_residual-in_err-put_marked.ensures.1 c.begin.ensures
+
+pub returns-in_err-close-clause-ran : goal.returns-in_err-close-clause-ran
+returns-in_err-close-clause-ran g c = λ s h.
+    let edit = PutCell c.args.key c.args.bytes.now in
+    let same = c.summaries.ensures.value ∙ ap (λ o. o.rows) c.begin.ensures in
+    let rows = put_rows_are s c.args.key c.args.bytes.now c.args.row _ _ h c.requires.row same c.in_ok-rows.ensures.value in
+    let params = c.params-params.ensures ∙ ap (λ o. o.params) c.begin.ensures ∙ h.params_is in
+    let opening = put_opening s c.args.key c.args.bytes.now _ _ params (c.deref.ensures.value ∙ rows) in
+    let sound = sound_after edit s c.requires.sound c.requires.room h in
+    let closing = put_closing s c.args.key c.args.bytes.now _ _ _ h sound params (c.deref-2.ensures.value ∙ rows) c.in_ok-put_marked.ensures.ran.ok in
+    at_err c.from_residual-in_err-close.result _ c.from_residual-in_err-close.ensures.1
+    (goes_on (all_as opening c.in_ok-put_marked.ensures.ran.ok) (c.in_err-close.ensures.ran (after edit s) closing).err)
+
+pub returns-in_err-close-clause-stop : goal.returns-in_err-close-clause-stop
+returns-in_err-close-clause-stop g c = λ s h.
+    let edit = PutCell c.args.key c.args.bytes.now in
+    let same = c.summaries.ensures.value ∙ ap (λ o. o.rows) c.begin.ensures in
+    let rows = put_rows_are s c.args.key c.args.bytes.now c.args.row _ _ h c.requires.row same c.in_ok-rows.ensures.value in
+    let params = c.params-params.ensures ∙ ap (λ o. o.params) c.begin.ensures ∙ h.params_is in
+    let opening = put_opening s c.args.key c.args.bytes.now _ _ params (c.deref.ensures.value ∙ rows) in
+    let sound = sound_after edit s c.requires.sound c.requires.room h in
+    let closing = put_closing s c.args.key c.args.bytes.now _ _ _ h sound params (c.deref-2.ensures.value ∙ rows) c.in_ok-put_marked.ensures.ran.ok in
+    same_stop c.from_residual-in_err-close.result _ c.from_residual-in_err-close.ensures.1 (c.in_err-close.ensures.stop (after edit s) closing)
+
+pub returns-in_err-close-clause-few : goal.returns-in_err-close-clause-few
+returns-in_err-close-clause-few g c = λ s h.
+    let edit = PutCell c.args.key c.args.bytes.now in
+    let same = c.summaries.ensures.value ∙ ap (λ o. o.rows) c.begin.ensures in
+    let rows = put_rows_are s c.args.key c.args.bytes.now c.args.row _ _ h c.requires.row same c.in_ok-rows.ensures.value in
+    let params = c.params-params.ensures ∙ ap (λ o. o.params) c.begin.ensures ∙ h.params_is in
+    let opening = put_opening s c.args.key c.args.bytes.now _ _ params (c.deref.ensures.value ∙ rows) in
+    let sound = sound_after edit s c.requires.sound c.requires.room h in
+    let closing = put_closing s c.args.key c.args.bytes.now _ _ _ h sound params (c.deref-2.ensures.value ∙ rows) c.in_ok-put_marked.ensures.ran.ok in
+    c.in_err-close.ensures.few (after edit s) closing
+
+pub returns-in_err-close-clause-turned : goal.returns-in_err-close-clause-turned
+returns-in_err-close-clause-turned g c = turned_off _ _ _ c.from_residual-in_err-close.result _ c.from_residual-in_err-close.ensures.1 c.begin.ensures
+
+pub returns-clause-ran : goal.returns-clause-ran
+returns-clause-ran g c = λ s h.
+    let edit = PutCell c.args.key c.args.bytes.now in
+    let same = c.summaries.ensures.value ∙ ap (λ o. o.rows) c.begin.ensures in
+    let rows = put_rows_are s c.args.key c.args.bytes.now c.args.row _ _ h c.requires.row same c.in_ok-rows.ensures.value in
+    let params = c.params-params.ensures ∙ ap (λ o. o.params) c.begin.ensures ∙ h.params_is in
+    let opening = put_opening s c.args.key c.args.bytes.now _ _ params (c.deref.ensures.value ∙ rows) in
+    let sound = sound_after edit s c.requires.sound c.requires.room h in
+    let closing = put_closing s c.args.key c.args.bytes.now _ _ _ h sound params (c.deref-2.ensures.value ∙ rows) c.in_ok-put_marked.ensures.ran.ok in
+    at_ok (both_done (all_as opening c.in_ok-put_marked.ensures.ran.ok) (c.in_ok-close.ensures.ran (after edit s) closing).ok)
+
+pub returns-clause-few : goal.returns-clause-few
+returns-clause-few g c = λ s h.
+    let edit = PutCell c.args.key c.args.bytes.now in
+    let same = c.summaries.ensures.value ∙ ap (λ o. o.rows) c.begin.ensures in
+    let rows = put_rows_are s c.args.key c.args.bytes.now c.args.row _ _ h c.requires.row same c.in_ok-rows.ensures.value in
+    let params = c.params-params.ensures ∙ ap (λ o. o.params) c.begin.ensures ∙ h.params_is in
+    let opening = put_opening s c.args.key c.args.bytes.now _ _ params (c.deref.ensures.value ∙ rows) in
+    let sound = sound_after edit s c.requires.sound c.requires.room h in
+    let closing = put_closing s c.args.key c.args.bytes.now _ _ _ h sound params (c.deref-2.ensures.value ∙ rows) c.in_ok-put_marked.ensures.ran.ok in
+    c.in_ok-close.ensures.few (after edit s) closing
+
+pub returns-clause-turned : goal.returns-clause-turned
+returns-clause-turned g c =
+    let list = c.in_ok-rows.ensures.value ∙ (λ i. with_row ((c.summaries.ensures.value ∙ ap (λ o. o.rows) c.begin.ensures) i) (c.requires.row i)) in
+    record { ok = c.end.ensures ∙ (λ i. contents_of ((ap (λ o. o.params) c.begin.ensures) i) (list i) true); err = tt }

@@ -1,0 +1,17 @@
+//! The calls on a database in a store: it is begun, settled, changed by a cell, made anew, and asked for a tile's files.
+#![tactic(auto)]
+
+mod commands;
+mod opened;
+mod rows;
+mod settling;
+mod starting;
+mod stored;
+#[cfg(test)]
+mod tests;
+
+pub use commands::{add, remove, replace};
+pub use opened::Opened;
+pub use settling::settle;
+pub use starting::{init, rebuild};
+pub use stored::stored_tile;

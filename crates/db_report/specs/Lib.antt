@@ -1,0 +1,5 @@
+pub mod Done
+pub mod Listing
+pub mod Refusal
+pub mod Tile
+pub mod Trial

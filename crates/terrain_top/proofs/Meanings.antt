@@ -1,0 +1,11 @@
+-- The one meaning of words.
+use Rattle.std.proofs.Common.{◌≡◌, ℕ, List, Option, Some, None, option_map, IfSome}
+use Rattle.top_words.specs.declared.command.Command as coded
+use Rattle.top_words.specs.Meant.{meant}
+use Rattle.top_words.specs.Words.{Command, Spells}
+use Rattle.terrain_top.specs.Top.{IsMeant}
+
+pub means : (words : List (List ℕ)) (command : Option coded.Command) → IfSome command (λ c. Spells words (meant c))
+    → ((c : Command) → Spells words c → option_map meant command ≡ Some c) → IsMeant words (option_map meant command)
+means words (Some c) right all = right
+means words None right all = λ c spells. absurd (cc (all c spells))

@@ -1,0 +1,70 @@
+// Commands over a database, which is settled first.
+ghost use Rattle.std.specs.Prelude.{◌≡◌, ◌≤◌, true, IsErrOf};
+ghost use Rattle.terrain_top.specs.Effects.{StopHasCause};
+ghost use Rattle.terrain_top.specs.Top.{database_reads};
+ghost use Rattle.top_words.specs.Meant.{database_meant};
+
+use crate::answer::Answer;
+use crate::change::answer_to_rebuild;
+use crate::edit::answer_to_edit;
+use crate::engine_answer::answer_of;
+use crate::query::answer_to_query;
+use crate::script::answer_to_apply;
+use crate::stop::Stop;
+use db_engine::{Opened, settle};
+use std::alloc::Global;
+use terrain_base::{Library, Sink, Store, Work};
+use top_words::DatabaseCommand;
+
+// Does a command over an opened database.
+fn answer_opened<St: Store, Li: Library, Si: Sink>(
+    alloc: Global,
+    store: &mut St,
+    opened: &mut Opened,
+    files: &mut Li,
+    out: &mut Si,
+    command: &DatabaseCommand<'_>,
+    work: &mut Work,
+) -> Result<Answer, Stop>
+    requires { opened.old.live ≡ true }
+    ensures same { Li.holds files.new ≡ Li.holds files.old }
+    ensures library { StopHasCause Stop.Input (Li.faults files.old) (Li.faults files.new) result }
+    ensures reads { IsErrOf result Stop.Input → database_reads (database_meant command.now) ≡ true }
+    ensures store { StopHasCause Stop.Store (St.faults store.old) (St.faults store.new) result }
+    ensures sink { StopHasCause Stop.Output (Si.faults out.old) (Si.faults out.new) result }
+    ensures more { work.old ≤ work.new }
+{
+    match command {
+        DatabaseCommand::Ask(query) => answer_to_query(alloc, store, opened, *query),
+        DatabaseCommand::Change(edit) => answer_to_edit(alloc, store, opened, files, edit, work),
+        DatabaseCommand::Apply { script } => {
+            answer_to_apply(alloc, store, opened, files, out, script, work)
+        }
+        DatabaseCommand::Rebuild => answer_to_rebuild(alloc, store, opened, work),
+    }
+}
+
+/// Settles the database, and does a command over it.
+pub(crate) fn answer_to_database<St: Store, Li: Library, Si: Sink>(
+    alloc: Global,
+    store: &mut St,
+    files: &mut Li,
+    out: &mut Si,
+    command: &DatabaseCommand<'_>,
+    work: &mut Work,
+) -> Result<Answer, Stop>
+    ensures same { Li.holds files.new ≡ Li.holds files.old }
+    ensures library { StopHasCause Stop.Input (Li.faults files.old) (Li.faults files.new) result }
+    ensures reads { IsErrOf result Stop.Input → database_reads (database_meant command.now) ≡ true }
+    ensures store { StopHasCause Stop.Store (St.faults store.old) (St.faults store.new) result }
+    ensures sink { StopHasCause Stop.Output (Si.faults out.old) (Si.faults out.new) result }
+    ensures more { work.old ≤ work.new }
+{
+    match settle(alloc, store, work) {
+        Ok(opened) => {
+            let mut opened = opened;
+            answer_opened(alloc, store, &mut opened, files, out, command, work)
+        }
+        Err(answer) => answer_of(alloc, &answer),
+    }
+}

@@ -1,0 +1,161 @@
+// Edits of the cells, as commands and as lines of scripts: first the file, then its grammar, then the database.
+ghost use Rattle.std.specs.Prelude.{◌≡◌, ◌⊎◌, ◌≤◌, true, IfErr, IsErrOf};
+ghost use Rattle.database.specs.declared.answer.EngineAnswer.TheVariants as engine;
+ghost use Rattle.terrain_top.specs.Effects.{Asks, OnlyMemory, OnStore, StopHasCause};
+ghost use Rattle.terrain_top.specs.Top.{edit_reads};
+ghost use Rattle.top_words.specs.Meant.{edit_meant};
+
+use crate::answer::{Answer, done, refused};
+use crate::cell::CELL_LIMIT;
+use crate::change::tiles_in;
+use crate::engine_answer::answer_of;
+use crate::file::{FileRead, open_file};
+use crate::stop::Stop;
+use database::EngineAnswer;
+use db_engine::{Opened, add, remove, replace};
+use db_report::{Edited, edited_line};
+use dted_cell::CellBytes;
+use report_text::cell_refusal_text;
+use std::alloc::Global;
+use terrain_base::{CellKey, Library, Square, Store, Work};
+use top_words::Edit;
+
+/// An edit whose file was read.
+#[derive(Drop)]
+pub(crate) enum Wanted {
+    /// It is refused before the database is asked.
+    Refused(Answer),
+    Add(CellBytes),
+    Replace(CellBytes),
+    Remove(CellKey),
+}
+
+// The cell of a file.
+#[derive(Drop)]
+enum CellRead {
+    Cell(CellBytes),
+    Refused(Answer),
+}
+
+// The cell that the bytes of a file are.
+fn check_cell(alloc: Global, bytes: Vec<u8>) -> Result<CellRead, Stop>
+    ensures memory { OnlyMemory result }
+{
+    match CellBytes::check(bytes) {
+        Ok(cell) => Ok(CellRead::Cell(cell)),
+        Err(other) => {
+            let cause = cell_refusal_text(alloc, &other.refusal)?;
+            Ok(CellRead::Refused(refused(alloc, &cause)?))
+        }
+    }
+}
+
+// The cell of a file.
+fn read_cell_of<Li: Library>(alloc: Global, files: &mut Li, file: &str) -> Result<CellRead, Stop>
+    ensures asks { Asks Li.holds Li.faults files.old files.new result }
+{
+    match open_file(alloc, files, file, CELL_LIMIT)? {
+        FileRead::Bytes(bytes) => check_cell(alloc, bytes),
+        FileRead::Refused(answer) => Ok(CellRead::Refused(answer)),
+    }
+}
+
+/// Reads the file of an edit, if it has one.
+pub(crate) fn read_wanted<Li: Library>(
+    alloc: Global,
+    files: &mut Li,
+    edit: &Edit<'_>,
+) -> Result<Wanted, Stop>
+    ensures asks { Asks Li.holds Li.faults files.old files.new result }
+    ensures reads { IsErrOf result Stop.Input → edit_reads (edit_meant edit.now) ≡ true }
+{
+    match *edit {
+        Edit::Add { file } => match read_cell_of(alloc, files, file)? {
+            CellRead::Cell(cell) => Ok(Wanted::Add(cell)),
+            CellRead::Refused(answer) => Ok(Wanted::Refused(answer)),
+        },
+        Edit::Replace { file } => match read_cell_of(alloc, files, file)? {
+            CellRead::Cell(cell) => Ok(Wanted::Replace(cell)),
+            CellRead::Refused(answer) => Ok(Wanted::Refused(answer)),
+        },
+        Edit::Remove { key } => Ok(Wanted::Remove(key)),
+    }
+}
+
+// What an edit of the database came to.
+fn told(
+    alloc: Global,
+    opened: &Opened,
+    outcome: Result<(), EngineAnswer>,
+    edited: Edited,
+    square: Square,
+) -> Result<Answer, Stop>
+    ensures store { IsErrOf result Stop.Store → IsErrOf outcome engine.StoreFault }
+    ensures only { IfErr result (λ stop. (stop ≡ Stop.Store) ⊎ (stop ≡ Stop.NoMemory)) }
+{
+    match outcome {
+        Ok(()) => {
+            let tiles = tiles_in(alloc, opened)?;
+            let line = edited_line(alloc, edited, square, tiles)?;
+            done(alloc, &line)
+        }
+        Err(answer) => answer_of(alloc, &answer),
+    }
+}
+
+/// Does an edit whose file was read. Where it is refused since something is wrong with a stored cell, the database may not
+/// be used any more.
+pub(crate) fn carry_out<St: Store>(
+    alloc: Global,
+    store: &mut St,
+    opened: &mut Opened,
+    wanted: Wanted,
+    work: &mut Work,
+) -> Result<Answer, Stop>
+    requires { opened.old.live ≡ true }
+    ensures store { OnStore (St.faults store.old) (St.faults store.new) result }
+    ensures more { work.old ≤ work.new }
+{
+    match wanted {
+        Wanted::Refused(answer) => Ok(answer),
+        Wanted::Add(cell) => {
+            let outcome = add(alloc, store, opened, &cell, work);
+            told(alloc, opened, outcome, Edited::Added, cell.view().square())
+        }
+        Wanted::Replace(cell) => {
+            let outcome = replace(alloc, store, opened, &cell, work);
+            told(
+                alloc,
+                opened,
+                outcome,
+                Edited::Replaced,
+                cell.view().square(),
+            )
+        }
+        Wanted::Remove(key) => {
+            let outcome = remove(alloc, store, opened, key, work);
+            told(alloc, opened, outcome, Edited::Removed, key.square)
+        }
+    }
+}
+
+/// Adds, replaces or removes a cell.
+pub(crate) fn answer_to_edit<St: Store, Li: Library>(
+    alloc: Global,
+    store: &mut St,
+    opened: &mut Opened,
+    files: &mut Li,
+    edit: &Edit<'_>,
+    work: &mut Work,
+) -> Result<Answer, Stop>
+    requires { opened.old.live ≡ true }
+    ensures same { Li.holds files.new ≡ Li.holds files.old }
+    ensures library { StopHasCause Stop.Input (Li.faults files.old) (Li.faults files.new) result }
+    ensures reads { IsErrOf result Stop.Input → edit_reads (edit_meant edit.now) ≡ true }
+    ensures store { StopHasCause Stop.Store (St.faults store.old) (St.faults store.new) result }
+    ensures silent { ¬ IsErrOf result Stop.Output }
+    ensures more { work.old ≤ work.new }
+{
+    let wanted = read_wanted(alloc, files, edit)?;
+    carry_out(alloc, store, opened, wanted, work)
+}

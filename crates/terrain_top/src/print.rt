@@ -1,0 +1,21 @@
+// The one place that prints.
+ghost use Rattle.std.specs.Prelude.{◌≡◌, ◌⊎◌, ◌++◌, IfErr, IfSome, OnErr, OnOk, option_map};
+ghost use Rattle.terrain_base.specs.Sink.{IsFront};
+ghost use Rattle.terrain_top.specs.Effects.{StopHasCause};
+
+use crate::stop::Stop;
+use terrain_base::{DeviceFault, Sink};
+
+/// Puts a text on the sink.
+pub(crate) fn print<Si: Sink>(out: &mut Si, text: &[u8]) -> Result<(), Stop>
+    ensures all { OnOk result (Si.taken out.new ≡ option_map (λ taken. taken ++ text.now) (Si.taken out.old)) }
+    ensures front { OnErr result (IfSome (Si.taken out.old) (λ taken. IsFront taken text.now (Si.taken out.new))) }
+    ensures sink { StopHasCause Stop.Output (Si.faults out.old) (Si.faults out.new) result }
+    ensures only { IfErr result (λ stop. (stop ≡ Stop.Output) ⊎ (stop ≡ Stop.NoMemory)) }
+{
+    match out.put(text) {
+        Ok(()) => Ok(()),
+        Err(DeviceFault::Failed) => Err(Stop::Output),
+        Err(DeviceFault::NoMemory) => Err(Stop::NoMemory),
+    }
+}

@@ -1,0 +1,100 @@
+// What is asked of a database.
+ghost use Rattle.std.specs.Prelude.{◌≡◌, true};
+ghost use Rattle.terrain_top.specs.Effects.{OnlyMemory, OnStore};
+
+use crate::answer::{Answer, Ending, refused};
+use crate::engine_answer::answer_of;
+use crate::stop::Stop;
+use availability::exists;
+use database::EngineAnswer;
+use db_engine::{Opened, stored_tile};
+use db_report::{deps_text, list_text, tile_line};
+use mesh_codec::TileView;
+use report_text::tile_refusal_text;
+use std::alloc::Global;
+use terrain_base::{Store, TileId};
+use tile_deps::DepIndex;
+use top_words::Query;
+
+// The params and the cells.
+fn answer_to_list(alloc: Global, opened: &Opened) -> Result<Answer, Stop>
+    ensures memory { OnlyMemory result }
+{
+    let text = list_text(alloc, opened.params(), opened.summaries())?;
+    Ok(Answer {
+        ending: Ending::Done,
+        text: text.into_bytes(),
+    })
+}
+
+// The squares with cells that a tile touches.
+fn answer_to_deps(alloc: Global, opened: &Opened, tile: TileId) -> Result<Answer, Stop>
+    ensures memory { OnlyMemory result }
+{
+    let rows = opened.summaries();
+    let cap = opened.params().cap();
+    if !exists(rows, cap, tile) {
+        return answer_of(alloc, &EngineAnswer::NoTile { tile });
+    }
+    let index = DepIndex::of(alloc, rows, cap)?;
+    let squares = index.cells_of(tile).collect::<Vec<_>>(alloc)?;
+    let text = deps_text(alloc, tile, &squares)?;
+    Ok(Answer {
+        ending: Ending::Done,
+        text: text.into_bytes(),
+    })
+}
+
+// The numbers of a tile's file, and its note as it stands.
+fn show_tile(alloc: Global, tile: TileId, terrain: &[u8], note: &[u8]) -> Result<Answer, Stop>
+    ensures memory { OnlyMemory result }
+{
+    match TileView::read(terrain) {
+        Ok(view) => {
+            let line = tile_line(alloc, tile, terrain.len() as u64, &view)?;
+            let mut text = format!(in alloc; "{line}\n")?.into_bytes();
+            text.extend_from_slice(note)?;
+            Ok(Answer {
+                ending: Ending::Done,
+                text,
+            })
+        }
+        Err(refusal) => {
+            let cause = tile_refusal_text(alloc, &refusal)?;
+            refused(alloc, &cause)
+        }
+    }
+}
+
+// A stored tile's numbers and its note.
+fn answer_to_inspect<St: Store>(
+    alloc: Global,
+    store: &mut St,
+    opened: &Opened,
+    tile: TileId,
+) -> Result<Answer, Stop>
+    requires { opened.now.live ≡ true }
+    ensures store { OnStore (St.faults store.old) (St.faults store.new) result }
+{
+    match stored_tile(store, opened, tile) {
+        Ok(files) => show_tile(alloc, tile, &files.terrain, &files.note),
+        Err(answer) => answer_of(alloc, &answer),
+    }
+}
+
+/// Answers what is asked of an opened database.
+pub(crate) fn answer_to_query<St: Store>(
+    alloc: Global,
+    store: &mut St,
+    opened: &Opened,
+    query: Query,
+) -> Result<Answer, Stop>
+    requires { opened.now.live ≡ true }
+    ensures store { OnStore (St.faults store.old) (St.faults store.new) result }
+{
+    match query {
+        Query::List => answer_to_list(alloc, opened),
+        Query::Inspect { tile } => answer_to_inspect(alloc, store, opened, tile),
+        Query::Deps { tile } => answer_to_deps(alloc, opened, tile),
+    }
+}
