@@ -8,6 +8,7 @@ must answer 0, and the folder must hold exactly the files of before or those of 
 beside its name may be left where nothing was written again; it is no name of a database.
 """
 
+import collections
 import concurrent.futures
 import pathlib
 import shutil
@@ -51,6 +52,15 @@ def traced(folder, words, *options):
     return done.returncode, lines
 
 
+def places(lines):
+    """Each call by its name and its number among the calls of that name, as strace counts them."""
+    seen = collections.Counter()
+    for line in lines:
+        call = line.split("(")[0].split()[-1]
+        seen[call] += 1
+        yield call, seen[call]
+
+
 def held(folder):
     """The files of the database with their hashes, without half-written ones."""
     files = stage.Stage([stage.PROGRAM], folder).files()
@@ -71,12 +81,12 @@ def states_passed(base, words):
     return states
 
 
-def tried(base, words, states, fault, number):
-    """What is wrong after the command is stopped at its call of this number, or None."""
+def tried(base, words, states, fault, call, number):
+    """What is wrong after the command is stopped at its call of this name and number, or None."""
     with tempfile.TemporaryDirectory() as folder:
         copy = pathlib.Path(folder) / "copy"
         shutil.copytree(base, copy)
-        status, _ = traced(copy, words, "-e", f"inject={CALLS}:{fault}:when={number}")
+        status, _ = traced(copy, words, "-e", f"inject={call}:{fault}:when={number}")
         killed = "KILL" in fault
         if not killed and status != 4:
             return f"status {status} where a store's call failed"
@@ -110,10 +120,10 @@ def main():
             if not lines:
                 print("stops: skipped, strace may not trace here")
                 return 0
-            trials = [(fault, number) for fault in FAULTS for number in range(1, len(lines) + 1)]
+            trials = [(fault, *place) for fault in FAULTS for place in places(lines)]
             with concurrent.futures.ThreadPoolExecutor(4) as pool:
                 wrong = list(pool.map(lambda trial: tried(base, words, states, *trial), trials))
-            found = [f"{fault} at call {number}: {said}" for (fault, number), said in zip(trials, wrong) if said]
+            found = [f"{fault} at {call} {number}: {said}" for (fault, call, number), said in zip(trials, wrong) if said]
             failed += len(found)
             print(f"stops of {name}: {len(trials)} tried, {len(found)} wrong")
             for line in found[:5]:
