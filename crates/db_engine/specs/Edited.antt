@@ -59,7 +59,8 @@ pub record EditRan {T : Type 0} (edit : Edit) (s : State) (held held' : Option F
 abbrev pub EditedBy : {T : Type 0} → Option EngineAnswer → Edit → State → Option Files → Option Files
     → Option (List Change) → Option (List Change) → Contents → ℕ → ℕ → Result T EngineAnswer → Type 0
 EditedBy None edit s held held' log log' o' work work' result = EditRan edit s held held' log log' o' work work' result
-EditedBy (Some answer) edit s held held' log log' o' work work' result = EditRefused answer s held held' log log' o' result
+EditedBy (Some answer) edit s held held' log log' o' work work' result =
+    EditRefused answer s held held' log log' o' result
 
 abbrev pub Edited : {T : Type 0} → Command → State → Option Files → Option Files
     → Option (List Change) → Option (List Change) → Contents → ℕ → ℕ → Result T EngineAnswer → Type 0
@@ -68,8 +69,8 @@ Edited command s held held' log log' o' work work' result =
 
 -- ---- over a store that stands for a state
 
--- after Ok the files are those of the new state, for which the store stands; after an error they stand for the old state
--- or for the new one
+-- after Ok the files are those of the new state, for which the store stands; after an error they stand for the old
+-- state or for the new one
 pub record Ends {T : Type 0} (edit : Edit) (s : State) (held' : Option Files) (o' : Contents)
     (result : Result T EngineAnswer) : Type 0 where
   pub files : OnOk result (IfSome held' (λ files. AreFiles files (after edit s)))

@@ -34,7 +34,8 @@ abbrev pub IsFull : EngineAnswer → Files → Option Files → Option (List Cha
 IsFull (CellPresent square level) files held log log' = ⊥
 IsFull (CellAbsent square level) files held log log' = ⊥
 IsFull DatabaseFull files held log log' = ⊥
-IsFull (NotEmpty name) files held log log' = (slice_get (keys files) zero ≡ Some name) × ((held ≡ Some files) × (log' ≡ log))
+IsFull (NotEmpty name) files held log log' =
+    (slice_get (keys files) zero ≡ Some name) × ((held ≡ Some files) × (log' ≡ log))
 IsFull (NotADatabase line) files held log log' = ⊥
 IsFull (Trouble trouble) files held log log' = ⊥
 IsFull (NoTile tile) files held log log' = ⊥
@@ -43,8 +44,8 @@ IsFull (OldVersion version) files held log log' = ⊥
 IsFull StoreFault files held log log' = Unit {0}
 IsFull NoMemory files held log log' = Unit {0}
 
--- a beginning leaves the files of the state, for which the store stands; a stop leaves nothing held, or files that stand
--- for it
+-- a beginning leaves the files of the state, for which the store stands; a stop leaves nothing held, or files that
+-- stand for it
 pub record Starts {T E : Type 0} (s : State) (held : Option Files) (result : Result T E) : Type 0 where
   pub ok : OnOk result (IfSome held (λ files. AreFiles files s × StandsMarked files s Closed))
   pub err : OnErr result (IfSome held (λ files. (keys files ≡ []) ⊎ StandsFor files s))

@@ -21,7 +21,8 @@ use Rattle.db_engine.specs.Opened.{Contents}
 use Rattle.db_engine.specs.Holding.{Holds, Stands}
 
 -- the store reads as the state, where the cell of this key is being put
-pub record Staged (held : Option Files) (params : Params) (rows : List Summary) (key : CellKey) (s : State) : Type 0 where
+pub record Staged (held : Option Files) (params : Params) (rows : List Summary) (key : CellKey)
+    (s : State) : Type 0 where
   pub files : Files
   pub held_is : held ≡ Some files
   pub params_is : params ≡ s.params
@@ -40,8 +41,8 @@ pub record Settles {T E : Type 0} (s : State) (held : Option Files) (result : Re
   pub ok : OnOk result (IfSome held (λ files. AreFiles files s))
   pub err : OnErr result (IfSome held (λ files. StandsFor files s))
 
--- of a rebuilding over a store that holds the cells of a state: after Ok it stands for the state, after a stop its files
--- read as it still
+-- of a rebuilding over a store that holds the cells of a state: after Ok it stands for the state, after a stop its
+-- files read as it still
 pub record Rebuilds {T E : Type 0} (s : State) (held : Option Files) (o : Contents) (result : Result T E) : Type 0 where
   pub ok : OnOk result (Stands held o s)
   pub err : OnErr result (IfSome held (λ files. ReadsFor files s))
@@ -60,12 +61,14 @@ pub record IsOpened (files : Files) (held : Option Files) (o : Contents) : Type 
   pub holds : Holds held o state
 
 -- nothing that can be seen is changed, and no tile is made
-pub record IsIdle (files : Files) (held : Option Files) (log log' : Option (List Change)) (work work' : ℕ) : Type 0 where
+pub record IsIdle (files : Files) (held : Option Files) (log log' : Option (List Change))
+    (work work' : ℕ) : Type 0 where
   pub same_held : held ≡ Some files
   pub same_log : log' ≡ log
   pub same_work : work' ≡ work
 
 -- an answer that tells how the files open is right, and then the call is idle
-abbrev pub IsRefusal : EngineAnswer → Files → Option Files → Option (List Change) → Option (List Change) → ℕ → ℕ → Type 0
+abbrev pub IsRefusal : EngineAnswer → Files → Option Files → Option (List Change) → Option (List Change)
+    → ℕ → ℕ → Type 0
 IsRefusal answer files held log log' work work' =
     IfSome (opening_of answer) (λ opening. OpensAs files opening × IsIdle files held log log' work work')

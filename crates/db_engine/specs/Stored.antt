@@ -37,7 +37,8 @@ pub record AreStored (held : Option Files) (exists : Bool) (tile : TileId) (file
 abbrev pub IsLost : Option Files → TileId → Key → Type 0
 IsLost held tile name =
     ((name ≡ Terrain tile) × IfSome held (λ files. get files (Terrain tile) ≡ None))
-    ⊎ ((name ≡ Note tile) × IfSome held (λ files. (is_some (get files (Terrain tile)) ≡ true) × (get files (Note tile) ≡ None)))
+    ⊎ ((name ≡ Note tile)
+    × IfSome held (λ files. (is_some (get files (Terrain tile)) ≡ true) × (get files (Note tile) ≡ None)))
 
 -- the tile does not exist, or it does and a file of it is not held, as the answer says; else it is a stop
 abbrev pub IsNotStored : Option Files → Bool → TileId → EngineAnswer → Type 0

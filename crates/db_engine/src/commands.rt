@@ -114,7 +114,8 @@ fn put_in<S: Store>(
         (S.holds store.old) (S.log store.old) (S.holds store.new) (S.log store.new) result }
     ensures stop { (s : State) → Holds (S.holds store.old) opened.old s → OnlyStops result }
     ensures few { (s : State) → Holds (S.holds store.old) opened.old s → work.new ≤ work.old
-        + count_existing (after (PutCell (key_in cell.now) cell.now) s) (touched s.params.cap (key_in cell.now).square) }
+        + count_existing (after (PutCell (key_in cell.now) cell.now) s)
+        (touched s.params.cap (key_in cell.now).square) }
     ensures turned { Turned (PutCell (key_in cell.now) cell.now) opened.old opened.new result }
     ensures sound { IsSoundCell (key_in cell.now) cell.now }
     ensures more { work.old ≤ work.new }
@@ -150,9 +151,9 @@ fn take_out<S: Store>(
     Ok(())
 }
 
-/// Adds a cell. K1 exactly where its key has one, and K3 exactly where it has none and there are 4096 cells: then nothing
-/// is changed. After Ok its row is among the rows, after any other error the opened database is not live. Over a store
-/// that holds the opened cells the changes are the command's, or a front of them where it stops.
+/// Adds a cell. K1 exactly where its key has one, and K3 exactly where it has none and there are 4096 cells: then
+/// nothing is changed. After Ok its row is among the rows, after any other error the opened database is not live. Over
+/// a store that holds the opened cells the changes are the command's, or a front of them where it stops.
 pub fn add<S: Store>(
     alloc: Global,
     store: &mut S,
@@ -161,12 +162,14 @@ pub fn add<S: Store>(
     work: &mut Work,
 ) -> Result<(), EngineAnswer>
     requires { opened.old.live ≡ true }
-    ensures edited { (s : State) → Holds (S.holds store.old) opened.old s → Edited (Add (key_in cell.now) cell.now) s
-        (S.holds store.old) (S.holds store.new) (S.log store.old) (S.log store.new) opened.new work.old work.new result }
+    ensures edited { (s : State) → Holds (S.holds store.old) opened.old s
+        → Edited (Add (key_in cell.now) cell.now) s (S.holds store.old) (S.holds store.new)
+        (S.log store.old) (S.log store.new) opened.new work.old work.new result }
     ensures ends { (s : State) → Stands (S.holds store.old) opened.old s
         → refusal_of (Add (key_in cell.now) cell.now) s ≡ None
         → Ends (PutCell (key_in cell.now) cell.now) s (S.holds store.new) opened.new result }
-    ensures refused { (answer : EngineAnswer) → refusal_by_rows (Add (key_in cell.now) cell.now) opened.old.rows ≡ Some answer
+    ensures refused { (answer : EngineAnswer)
+        → refusal_by_rows (Add (key_in cell.now) cell.now) opened.old.rows ≡ Some answer
         → Refused answer opened.old opened.new (S.holds store.old) (S.holds store.new)
         (S.log store.old) (S.log store.new) (S.faults store.old) (S.faults store.new) work.old work.new result }
     ensures turned { refusal_by_rows (Add (key_in cell.now) cell.now) opened.old.rows ≡ None
@@ -189,8 +192,8 @@ pub fn add<S: Store>(
 }
 
 /// Puts a cell in the place of the one of its key; an equal cell is put too. K2 exactly where its key has none: then
-/// nothing is changed. After Ok its row is in the place of the old one, after any other error the opened database is not
-/// live. Over a store that holds the opened cells the changes are the command's, or a front of them where it stops.
+/// nothing is changed. After Ok its row is in the place of the old one, after any other error the opened database is
+/// not live. Over a store that holds the opened cells the changes are the command's, or a front of them where it stops.
 pub fn replace<S: Store>(
     alloc: Global,
     store: &mut S,
@@ -235,8 +238,9 @@ pub fn remove<S: Store>(
     work: &mut Work,
 ) -> Result<(), EngineAnswer>
     requires { opened.old.live ≡ true }
-    ensures edited { (s : State) → Holds (S.holds store.old) opened.old s → Edited (Remove key) s
-        (S.holds store.old) (S.holds store.new) (S.log store.old) (S.log store.new) opened.new work.old work.new result }
+    ensures edited { (s : State) → Holds (S.holds store.old) opened.old s
+        → Edited (Remove key) s (S.holds store.old) (S.holds store.new)
+        (S.log store.old) (S.log store.new) opened.new work.old work.new result }
     ensures ends { (s : State) → Stands (S.holds store.old) opened.old s → refusal_of (Remove key) s ≡ None
         → Ends (DropCell key) s (S.holds store.new) opened.new result }
     ensures refused { (answer : EngineAnswer) → refusal_by_rows (Remove key) opened.old.rows ≡ Some answer

@@ -1,4 +1,5 @@
-//! The calls on a database in a store: it is begun, settled, changed by a cell, made anew, and asked for a tile's files.
+//! The calls on a database in a store: it is begun, settled, changed by a cell, made anew, and asked for the files of a
+//! tile.
 #![tactic(auto)]
 
 mod commands;

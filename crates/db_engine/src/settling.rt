@@ -79,8 +79,8 @@ fn finish<S: Store>(
 
 /// Opens a database, and finishes what was under way. K12, K5, and K6 to K9 exactly where the files that are held open
 /// so: then nothing is changed. Where they read as a state, the changes are those of its settling, or a front of them
-/// where it stops by the store or for want of memory; after Ok the files are settled, after a stop they read as the state
-/// still, and stand for it where they stood for it.
+/// where it stops by the store or for want of memory. After Ok the files are settled; after a stop they read as the
+/// state still, and stand for it where they stood for it.
 pub fn settle<S: Store>(
     alloc: Global,
     store: &mut S,

@@ -48,8 +48,8 @@ pub fn init<S: Store>(
 
 /// Makes every tile anew, and deletes what is no file of the database. Nothing is refused: after an error the opened
 /// database is not live. Over a store that holds the opened cells the changes are those of a rebuilding, or a front of
-/// them where it stops by the store or for want of memory; after Ok the store stands for the cells, after a stop it holds
-/// them still.
+/// them where it stops by the store or for want of memory. After Ok the store stands for the cells, after a stop it
+/// holds them still.
 pub fn rebuild<S: Store>(
     alloc: Global,
     store: &mut S,

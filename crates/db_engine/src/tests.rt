@@ -1,5 +1,5 @@
-//! Databases in memory. The sums of what is held are of the files that another program, made apart from this one, leaves
-//! after the same commands.
+//! Databases in memory. The sums of what is held are of the files that another program, made apart from this one,
+//! leaves after the same commands.
 use super::*;
 use database::EngineAnswer;
 use dted_cell::CellBytes;

@@ -5,4 +5,5 @@ pub mod File
 pub mod Reply
 pub mod Run
 pub mod Status
+pub mod Told
 pub mod Top

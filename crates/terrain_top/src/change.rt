@@ -1,6 +1,9 @@
 // The commands that make a database, or make it anew.
-ghost use Rattle.std.specs.Prelude.{◌≡◌, ◌≤◌, true};
+ghost use Rattle.std.specs.Prelude.{◌≡◌, ◌≤◌, true, IfOk};
+ghost use Rattle.db_report.specs.Done.{created_line_of, rebuilt_line_of};
 ghost use Rattle.terrain_top.specs.Effects.{OnlyMemory, OnStore};
+ghost use Rattle.terrain_top.specs.Reply.{done_reply};
+ghost use Rattle.terrain_top.specs.Told.{IsDoneOrTold, tiles_of};
 
 use crate::answer::{Answer, done};
 use crate::engine_answer::answer_of;
@@ -13,6 +16,7 @@ use terrain_base::{Params, Store, Work};
 
 /// How many tiles an opened database has.
 pub(crate) fn tiles_in(alloc: Global, opened: &Opened) -> Result<u64, Stop>
+    ensures count { IfOk result (λ tiles. tiles ≡ tiles_of opened.now) }
     ensures memory { OnlyMemory result }
 {
     Ok(tile_count(alloc, opened.summaries(), opened.params().cap())?)
@@ -25,6 +29,7 @@ pub(crate) fn answer_to_init<St: Store>(
     params: Params,
     work: &mut Work,
 ) -> Result<Answer, Stop>
+    ensures says { IfOk result (IsDoneOrTold (done_reply (created_line_of params))) }
     ensures store { OnStore (St.faults store.old) (St.faults store.new) result }
     ensures more { work.old ≤ work.new }
 {
@@ -45,6 +50,7 @@ pub(crate) fn answer_to_rebuild<St: Store>(
     work: &mut Work,
 ) -> Result<Answer, Stop>
     requires { opened.old.live ≡ true }
+    ensures says { IfOk result (IsDoneOrTold (done_reply (rebuilt_line_of (tiles_of opened.new)))) }
     ensures store { OnStore (St.faults store.old) (St.faults store.new) result }
     ensures more { work.old ≤ work.new }
 {

@@ -1,16 +1,10 @@
 //! Commands over a database, one after another, over a store in memory.
-use crate::tests::{FLAT, Sample, words};
+use crate::tests::{FLAT, SEVEN, words};
 use crate::{Status, run};
 use std::alloc::{AllocError, Global};
 use std::test::Fail as Stopped;
 use terrain_base::{
     Fail, MemLibrary, MemSink, MemStore, NoMemory, SureLibrary, SureSink, SureStore, Work,
-};
-
-const SEVEN: Sample = Sample {
-    word: 7,
-    other_word: 7,
-    ..FLAT
 };
 
 // Commands, with what each answers and prints.
@@ -123,9 +117,9 @@ fn a_database_is_made_asked_and_changed(rt: HostRuntime) -> Result<(), Stopped> 
     Ok(())
 }
 
-// A store that holds a database of cap 0 without cells, with these failing calls from then on.
-fn begun(alloc: Global, fails: &[Fail]) -> Result<MemStore, NoMemory> {
-    let mut store = MemStore::new(alloc, fails)?;
+// A store that holds a database of cap 0 without cells.
+fn begun(alloc: Global) -> Result<MemStore, NoMemory> {
+    let mut store = MemStore::new(alloc, &[])?;
     let mut files = SureLibrary::new(alloc);
     let mut out = SureSink::new(alloc);
     let mut work = Work::new();
@@ -161,7 +155,7 @@ fn a_failing_call_stops_a_script(rt: HostRuntime) -> Result<(), Stopped> {
         let mut store = if of_store.call == 0 {
             MemStore::new(alloc, &[of_store])?
         } else {
-            begun(alloc, &[])?
+            begun(alloc)?
         };
         let mut files = MemLibrary::new(alloc, &[of_files])?;
         files.hold("two", b"add flat.dt0\nreplace flat.dt0\n")?;

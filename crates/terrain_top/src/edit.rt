@@ -1,7 +1,10 @@
 // Edits of the cells, as commands and as lines of scripts: first the file, then its grammar, then the database.
-ghost use Rattle.std.specs.Prelude.{◌≡◌, ◌⊎◌, ◌≤◌, true, IfErr, IsErrOf};
+ghost use Rattle.std.specs.Prelude.{◌≡◌, ◌⊎◌, ◌≤◌, true, IfErr, IfOk, IsErrOf};
 ghost use Rattle.database.specs.declared.answer.EngineAnswer.TheVariants as engine;
 ghost use Rattle.terrain_top.specs.Effects.{Asks, OnlyMemory, OnStore, StopHasCause};
+ghost use Rattle.db_report.specs.Done.{edited_line_of};
+ghost use Rattle.terrain_top.specs.Reply.{done_reply};
+ghost use Rattle.terrain_top.specs.Told.{IsCarriedOut, IsDoneOrTold, tiles_of};
 ghost use Rattle.terrain_top.specs.Top.{edit_reads};
 ghost use Rattle.top_words.specs.Meant.{edit_meant};
 
@@ -90,6 +93,7 @@ fn told(
     edited: Edited,
     square: Square,
 ) -> Result<Answer, Stop>
+    ensures says { IfOk result (IsDoneOrTold (done_reply (edited_line_of edited square (tiles_of opened.now)))) }
     ensures store { IsErrOf result Stop.Store → IsErrOf outcome engine.StoreFault }
     ensures only { IfErr result (λ stop. (stop ≡ Stop.Store) ⊎ (stop ≡ Stop.NoMemory)) }
 {
@@ -113,6 +117,7 @@ pub(crate) fn carry_out<St: Store>(
     work: &mut Work,
 ) -> Result<Answer, Stop>
     requires { opened.old.live ≡ true }
+    ensures says { IfOk result (IsCarriedOut wanted opened.new) }
     ensures store { OnStore (St.faults store.old) (St.faults store.new) result }
     ensures more { work.old ≤ work.new }
 {

@@ -1,9 +1,8 @@
 // Answers of the engine in place of Ok.
-ghost use Rattle.std.specs.Prelude.{◌≡◌, ◌⊎◌, IfErr, IfOk, IsSomeAnd};
+ghost use Rattle.std.specs.Prelude.{◌≡◌, ◌⊎◌, IfErr, IfOk};
 ghost use Rattle.database.specs.declared.answer.EngineAnswer.TheVariants as engine;
-ghost use Rattle.db_report.specs.Refusal.{refusal_text_of};
 ghost use Rattle.terrain_top.specs.Effects.{StopsBy};
-ghost use Rattle.terrain_top.specs.Reply.{Says, refused_reply};
+ghost use Rattle.terrain_top.specs.Told.{IsTold};
 
 use crate::answer::{Answer, refused};
 use crate::stop::Stop;
@@ -23,7 +22,7 @@ fn stop_of(answer: &EngineAnswer) -> Stop
 
 /// What an answer in place of Ok comes to: a refusal, or a stop by the store or for want of memory.
 pub(crate) fn answer_of(alloc: Global, answer: &EngineAnswer) -> Result<Answer, Stop>
-    ensures says { IfOk result (λ told. IsSomeAnd (refusal_text_of answer.now) (λ cause. Says (refused_reply cause) told)) }
+    ensures says { IfOk result (IsTold answer.now) }
     ensures stops { IfErr result (StopsBy answer.now) }
 {
     match refusal_text(alloc, answer)? {

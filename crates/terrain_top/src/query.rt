@@ -1,6 +1,11 @@
 // What is asked of a database.
-ghost use Rattle.std.specs.Prelude.{◌≡◌, true};
+ghost use Rattle.std.specs.Prelude.{◌≡◌, true, ℤ, IfOk, Option};
+ghost use Rattle.db_report.specs.Listing.{list_text_of};
+ghost use Rattle.db_report.specs.Tile.{IsHeightWord};
+ghost use Rattle.mesh_codec.specs.Tile.{header_in};
 ghost use Rattle.terrain_top.specs.Effects.{OnlyMemory, OnStore};
+ghost use Rattle.terrain_top.specs.Reply.{Says};
+ghost use Rattle.terrain_top.specs.Told.{deps_reply, shown_reply, text_reply};
 
 use crate::answer::{Answer, Ending, refused};
 use crate::engine_answer::answer_of;
@@ -18,6 +23,7 @@ use top_words::Query;
 
 // The params and the cells.
 fn answer_to_list(alloc: Global, opened: &Opened) -> Result<Answer, Stop>
+    ensures says { IfOk result (Says (text_reply (list_text_of opened.now.params opened.now.rows))) }
     ensures memory { OnlyMemory result }
 {
     let text = list_text(alloc, opened.params(), opened.summaries())?;
@@ -29,6 +35,7 @@ fn answer_to_list(alloc: Global, opened: &Opened) -> Result<Answer, Stop>
 
 // The squares with cells that a tile touches.
 fn answer_to_deps(alloc: Global, opened: &Opened, tile: TileId) -> Result<Answer, Stop>
+    ensures says { IfOk result (Says (deps_reply tile opened.now.params.cap opened.now.rows)) }
     ensures memory { OnlyMemory result }
 {
     let rows = opened.summaries();
@@ -47,6 +54,7 @@ fn answer_to_deps(alloc: Global, opened: &Opened, tile: TileId) -> Result<Answer
 
 // The numbers of a tile's file, and its note as it stands.
 fn show_tile(alloc: Global, tile: TileId, terrain: &[u8], note: &[u8]) -> Result<Answer, Stop>
+    ensures says { IfOk result (λ answer. (least greatest : Option ℤ) → IsHeightWord (header_in terrain.now).least least → IsHeightWord (header_in terrain.now).greatest greatest → Says (shown_reply tile terrain.now note.now least greatest) answer) }
     ensures memory { OnlyMemory result }
 {
     match TileView::read(terrain) {

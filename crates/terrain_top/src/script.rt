@@ -1,6 +1,9 @@
 // Scripts: edits line by line.
-ghost use Rattle.std.specs.Prelude.{◌≡◌, ◌≤◌, true, IfNone, IfOk, IsErrOf};
+ghost use Rattle.std.specs.Prelude.{◌≡◌, ◌≤◌, ◌++◌, true, IfNone, IfOk, IsErrOf};
+ghost use Rattle.db_report.specs.Done.{script_mark_of};
 ghost use Rattle.terrain_top.specs.Effects.{Asks, OnlyMemory, StopHasCause};
+ghost use Rattle.terrain_top.specs.Reply.{Says};
+ghost use Rattle.terrain_top.specs.Told.{ended_reply};
 
 use crate::answer::{Answer, Ending, refused};
 use crate::edit::{Wanted, carry_out, read_wanted};
@@ -49,6 +52,7 @@ fn read_line<Li: Library>(
 
 // The report of a line: its number, and what it came to.
 fn marked(alloc: Global, number: u64, answer: &Answer) -> Result<Vec<u8>, Stop>
+    ensures text { IfOk result (λ text. text.items ≡ script_mark_of number ++ answer.now.text.items) }
     ensures memory { OnlyMemory result }
 {
     let mut text = script_mark(alloc, number)?.into_bytes();
@@ -135,6 +139,7 @@ fn do_lines<St: Store, Li: Library, Si: Sink>(
 
 // The last line of a script's report.
 fn ended(alloc: Global, tally: &Tally) -> Result<Answer, Stop>
+    ensures says { IfOk result (Says (ended_reply tally.now.done tally.now.refused)) }
     ensures memory { OnlyMemory result }
 {
     let line = script_line(alloc, tally.done, tally.refused)?;

@@ -14,9 +14,9 @@ pub(crate) struct Sample {
     interval: [u8; 4],
     counts: [u8; 8],
     columns: u8,
-    pub(crate) word: u16,
+    word: u16,
     other_at: (u8, u8),
-    pub(crate) other_word: u16,
+    other_word: u16,
 }
 
 pub(crate) const FLAT: Sample = Sample {
@@ -27,6 +27,13 @@ pub(crate) const FLAT: Sample = Sample {
     word: 0,
     other_at: (0, 0),
     other_word: 0,
+};
+
+// The same with 7 metres at every post.
+pub(crate) const SEVEN: Sample = Sample {
+    word: 7,
+    other_word: 7,
+    ..FLAT
 };
 
 impl Sample {
