@@ -139,3 +139,31 @@ fn a_cell_that_was_marked_is_put_by_settling(rt: HostRuntime) -> Result<(), Fail
     }
     Ok(())
 }
+
+// A cell is replaced where a call on the store fails, and the store is settled. What is held then, in sum.
+fn sum_after_a_stopped_replace(alloc: Global, fail: Fail) -> Result<u64, Failed> {
+    let params = Params::of(1, 0).ok_or("params")?;
+    let mut store = MemStore::new(alloc, &[fail])?;
+    let mut work = Work::new();
+    let mut opened = init(alloc, &mut store, params, &mut work)?;
+    add(alloc, &mut store, &mut opened, &cell(alloc, 5)?, &mut work)?;
+    let stopped = replace(alloc, &mut store, &mut opened, &cell(alloc, 6)?, &mut work);
+    if stopped != Err(EngineAnswer::StoreFault) || opened.live() {
+        return Ok(0);
+    }
+    settle(alloc, &mut store, &mut work)?;
+    sum_of(&mut store)
+}
+
+#[test]
+fn a_stop_at_any_call_of_a_replace_leaves_the_old_or_the_new_files(
+    rt: HostRuntime,
+) -> Result<(), Failed> {
+    for call in 29..48u64 {
+        for applied in [false, true] {
+            let sum = sum_after_a_stopped_replace(rt.alloc(), Fail { call, applied })?;
+            assert!(rt; sum == FIVE || sum == SIX);
+        }
+    }
+    Ok(())
+}

@@ -1,5 +1,5 @@
 -- What is printed begins the reply's text.
-use Rattle.std.proofs.Common.{◌≡◌, ℕ, List, ◌++◌, length, take, Option, Some, None, option_map, IfOk, IfSome, Result, Ok, Err, ap, sym, ◌∙◌, arith}
+use Rattle.std.proofs.Common.{◌≡◌, ℕ, List, ◌++◌, length, Option, Some, None, option_map, IfOk, IfSome, Result, Ok, Err, ap, sym, ◌∙◌, arith}
 use Rattle.std.specs.Prelude.{OnErr}
 use Rattle.std.proofs.Math.Seq.{take-length}
 use Rattle.terrain_base.specs.Library.{LibraryFiles}

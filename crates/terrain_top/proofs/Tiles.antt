@@ -1,5 +1,5 @@
 -- A stored tile is shown.
-use Rattle.std.proofs.Common.{◌≡◌, ℕ, ℤ, List, ◌++◌, codes, Option, Some, None, ap, sym, ◌∙◌}
+use Rattle.std.proofs.Common.{◌≡◌, ℕ, ℤ, List, ◌++◌, codes, Option, None, ap, sym}
 use Rattle.std.specs.Prelude.{length}
 use Rattle.terrain_base.specs.declared.tile.TileId.{TileId}
 use Rattle.mesh_codec.specs.Refusal.{tile_refusal_of}

@@ -1,7 +1,6 @@
 -- What a command that reads a file comes to.
 use Rattle.std.specs.Prelude.{◌≡◌, ℕ, ◌≤◌, List, [], ◌∷◌, length, codes, decimal, Option, Some, None, nat_lt, if◌then◌else◌}
 use Rattle.report_text.specs.Words.{joined}
-use Rattle.terrain_top.specs.declared.answer.Answer.{Answer}
 use Rattle.terrain_top.specs.declared.answer.Ending.TheVariants as ending
 use Rattle.terrain_top.specs.declared.file.FileRead.{FileRead}
 use Rattle.terrain_top.specs.declared.file.FileRead.TheVariants.{Bytes, Refused}

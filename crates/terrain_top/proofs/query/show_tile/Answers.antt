@@ -1,4 +1,4 @@
-use Rattle.std.proofs.Common.{refl, ap, ◌∙◌, ◌++◌, codes, append_assoc, string_bytes, subst, sym}
+use Rattle.std.proofs.Common.{refl, ap, ◌∙◌, ◌++◌, codes, append_assoc, subst, sym}
 use Rattle.std.specs.Prelude.{length}
 use Rattle.mesh_codec.specs.Tile.{header_in}
 use Rattle.db_report.specs.Tile.{IsHeightWord, tile_line_of}
