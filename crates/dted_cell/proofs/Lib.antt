@@ -1,5 +1,5 @@
 pub mod Cells
-pub mod Counts
+pub mod Loops
 pub mod Extremes
 pub mod First
 pub mod HeaderLaws
@@ -14,3 +14,9 @@ pub mod Shapes
 pub mod Squares
 pub mod Stands
 pub mod Views
+pub mod ByteSums
+pub mod Keys
+pub mod Lanes
+pub mod Passes
+pub mod Rows
+pub mod Records

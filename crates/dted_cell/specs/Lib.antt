@@ -9,3 +9,4 @@ pub mod Cell
 pub mod CellLaws
 pub mod Good
 pub mod Trouble
+pub mod Words

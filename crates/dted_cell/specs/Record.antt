@@ -1,7 +1,9 @@
 -- The data records of a cell, one for each meridian from west to east (MIL-PRF-89020, data record).
-use Rattle.std.specs.Prelude.{◌≡◌, ℕ, ◌+◌, ◌*◌, ◌<◌, List, sum, slice_index, slice_range}
+use Rattle.std.specs.Prelude.{◌≡◌, ℕ, ◌+◌, ◌*◌, ◌<◌, List, map, sum, slice_index, slice_range}
 use Rattle.dted_cell.specs.Field.{word_at, long_at}
-use Rattle.dted_cell.specs.Elevation.{IsElevation}
+use Rattle.std.specs.List.{range_with_len}
+use Rattle.terrain_base.specs.declared.post.Post.{Post}
+use Rattle.dted_cell.specs.Elevation.{post_of, IsElevation}
 
 -- where the record of a column begins, behind a header of 3428 bytes: each record has 8 bytes, two for each row, and
 -- 4 of checksum
@@ -28,3 +30,7 @@ pub record IsRecord (text : List ℕ) (rows col : ℕ) : Type 0 where
   pub column : longitude_count text rows col ≡ col
   pub checksum : stated_sum text rows col ≡ plain_sum text rows col
   pub heights : (row : ℕ) → row < rows → IsElevation (word_at text (elevation_at rows col row))
+
+-- the posts of a record, from the south on
+abbrev pub posts_at : List ℕ → ℕ → ℕ → List Post
+posts_at text rows col = map (λ row. post_of (word_at text (elevation_at rows col row))) (range_with_len 0 rows)

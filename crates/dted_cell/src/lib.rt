@@ -3,7 +3,9 @@
 
 mod bytes;
 mod cell;
+mod counts;
 mod elevation;
+mod elevations;
 mod field;
 mod fields;
 mod header;
@@ -12,6 +14,7 @@ mod lead;
 mod profile;
 mod record;
 mod refusal;
+mod tally;
 #[cfg(test)]
 mod tests;
 mod trouble;

@@ -7,13 +7,20 @@ ghost use Rattle.std.specs.Prelude.{
   ◌<◌,
   ◌≤◌,
   length,
+  ◌↔◌,
   map,
   flat_map,
+  fold,
   sum,
+  count_by,
+  IsSome,
+  IfSome,
+  None,
 };
 ghost use Rattle.std.specs.List.{range_with_len};
 ghost use Rattle.dted_cell.specs.Elevation.{signed_of, is_out_of_range};
-ghost use Rattle.dted_cell.specs.Record.{record_at, elevation_at};
+ghost use Rattle.dted_cell.specs.Record.{record_at, elevation_at, posts_at, IsRecord};
+ghost use Rattle.dted_cell.specs.Cell.{is_void_post, widened};
 ghost use Rattle.dted_cell.specs.Refusal.{
   ◌when◌,
   first_of,
@@ -22,9 +29,14 @@ ghost use Rattle.dted_cell.specs.Refusal.{
 };
 
 use crate::CellRefusal;
+use crate::counts::Counts;
 use crate::elevation::{HIGHEST, VOID, signed};
 use crate::field::{long, word};
 use crate::header::HEADER_LENGTH;
+use crate::tally::tally_of;
+
+// The byte that a data record begins with.
+const SENTINEL: u8 = 0xAA;
 
 // Where the record of a column begins.
 pub(crate) fn record_start(rows: u16, col: u16) -> usize
@@ -71,6 +83,29 @@ fn summed(bytes: &[u8]) -> u32
     bytes.iter().map(|byte| u32::from(*byte)).sum()
 }
 
+// What the posts of a column's record are counted to, where the record is good.
+fn good_record(text: &[u8], rows: u16, col: u16) -> Option<Counts>
+    requires { record_at rows (col + 1) ≤ length text.now }
+    ensures good { IsSome result ↔ IsRecord text.now rows col }
+    ensures voids { IfSome result (λ counts. counts.voids ≡ count_by is_void_post (posts_at text.now rows col)) }
+    ensures extremes { IfSome result (λ counts.
+        counts.extremes ≡ fold widened None (posts_at text.now rows col)) }
+{
+    let start = record_start(rows, col);
+    let end = start + 8 + 2 * rows as usize;
+    if text[start] != SENTINEL {
+        return None;
+    }
+    if word(text, start + 4) != col {
+        return None;
+    }
+    let tally = tally_of(&text[start + 8..end], rows)?;
+    if long(text, end) != summed(&text[start..start + 8]) + tally.sum {
+        return None;
+    }
+    Some(tally.counts)
+}
+
 // The refusal of a column's record.
 fn record_refusal(text: &[u8], rows: u16, col: u16) -> Option<CellRefusal>
     requires { record_at rows (col + 1) ≤ length text.now }
@@ -78,7 +113,7 @@ fn record_refusal(text: &[u8], rows: u16, col: u16) -> Option<CellRefusal>
 {
     let start = record_start(rows, col);
     let end = start + 8 + 2 * rows as usize;
-    if text[start] != 0xAA {
+    if text[start] != SENTINEL {
         return Some(CellRefusal::BadSentinel { col });
     }
     if word(text, start + 4) != col {
@@ -96,6 +131,17 @@ fn record_refusal(text: &[u8], rows: u16, col: u16) -> Option<CellRefusal>
     heights_refusal(text, rows, col)
 }
 
+// The same, by one pass where the record is good. Only a record with a fault is walked.
+fn quick_refusal(text: &[u8], rows: u16, col: u16) -> Option<CellRefusal>
+    requires { record_at rows (col + 1) ≤ length text.now }
+    ensures { result ≡ first_of (record_conditions text.now rows col) }
+{
+    match good_record(text, rows, col) {
+        Some(_) => None,
+        None => record_refusal(text, rows, col),
+    }
+}
+
 // The refusal of the westernmost record that is not good.
 #[tactic(auto, using(crate::proofs::First::flat_next, crate::proofs::First::flat_found))]
 pub(crate) fn records_refusal(text: &[u8], columns: u16, rows: u16) -> Option<CellRefusal>
@@ -103,7 +149,7 @@ pub(crate) fn records_refusal(text: &[u8], columns: u16, rows: u16) -> Option<Ce
     ensures { result ≡ first_of (flat_map (record_conditions text.now rows) (range_with_len 0 columns)) }
 {
     for col in 0..columns {
-        if let Some(refusal) = record_refusal(text, rows, col) {
+        if let Some(refusal) = quick_refusal(text, rows, col) {
             return Some(refusal);
         }
     }

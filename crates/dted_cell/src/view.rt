@@ -152,7 +152,7 @@ impl<'a> CellView<'a> {
     }
 
     // How many posts of a column are void.
-    #[tactic(auto, using(crate::proofs::Counts::count_next))]
+    #[tactic(auto, using(crate::proofs::Loops::count_next))]
     fn voids_of(&self, col: u16) -> u32
         requires { col < columns_in self.now }
         ensures exact { result ≡ count_by is_void_post (column_in self.now col) }
@@ -168,7 +168,7 @@ impl<'a> CellView<'a> {
     }
 
     /// How many posts are void.
-    #[tactic(auto, using(crate::proofs::Counts::sum_next), unfolding(crate::specs::Cell::voids_in, crate::specs::Cell::posts_in))]
+    #[tactic(auto, using(crate::proofs::Loops::sum_next), unfolding(crate::specs::Cell::voids_in, crate::specs::Cell::posts_in))]
     pub fn voids(&self) -> u32
         ensures { result ≡ voids_in self.now }
     {
@@ -180,7 +180,7 @@ impl<'a> CellView<'a> {
     }
 
     // Extremes, with the posts of a column.
-    #[tactic(auto, using(crate::proofs::Counts::fold_next))]
+    #[tactic(auto, using(crate::proofs::Loops::fold_next))]
     fn extremes_with(&self, before: Option<Extremes>, col: u16) -> Option<Extremes>
         requires { col < columns_in self.now }
         ensures { result ≡ fold widened before (column_in self.now col) }
@@ -203,7 +203,7 @@ impl<'a> CellView<'a> {
     }
 
     // The same, by every post in turn.
-    #[tactic(auto, using(crate::proofs::Counts::fold_next), unfolding(crate::specs::Cell::extremes_in, crate::specs::Cell::posts_in))]
+    #[tactic(auto, using(crate::proofs::Loops::fold_next), unfolding(crate::specs::Cell::extremes_in, crate::specs::Cell::posts_in))]
     fn extremes_of(&self) -> Option<Extremes>
         ensures { result ≡ extremes_in self.now }
     {
