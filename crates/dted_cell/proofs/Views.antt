@@ -6,8 +6,10 @@ use Rattle.dted_cell.specs.Lead.{lead_of, text_of}
 use Rattle.dted_cell.specs.Elevation.{post_of}
 use Rattle.dted_cell.specs.Record.{record_at, elevation_at}
 use Rattle.dted_cell.specs.Refusal.{refusal_of}
-use Rattle.dted_cell.specs.Cell.{square_in, level_in, columns_in, rows_in, post_in, profile_in, post_of_row}
+use Rattle.dted_cell.specs.Cell.{square_in, level_in, columns_in, rows_in, post_in, profile_in, post_of_row, voids_in, extremes_in}
 use Rattle.dted_cell.proofs.WholeCells.{cell_by}
+use Rattle.dted_cell.specs.Counts.{IsCounted}
+use Rattle.dted_cell.specs.declared.counts.Counts.{Counts}
 use Rattle.dted_cell.specs.Good.{IsGood}
 use Rattle.dted_cell.specs.declared.header.Header.{Header}
 
@@ -33,6 +35,13 @@ module _ (bytes value : List ℕ) (header : Header) (good : IsGood bytes header)
   pub view_long : record_at (rows_in value) (columns_in value) ≤ length (text_of value)
   unfolding columns_in rows_in
   view_long = (cell_by value (sym (ap refusal_of same) ∙ good.accepted)).long_enough
+
+module _ (bytes value : List ℕ) (counts : Counts) (counted : IsCounted bytes counts) (same : bytes ≡ value) where
+  pub view_voids : counts.voids ≡ voids_in value
+  view_voids = counted.voids_are ∙ ap voids_in same
+
+  pub view_extremes : counts.extremes ≡ extremes_in value
+  view_extremes = counted.extremes_are ∙ ap extremes_in same
 
 -- ---- a column's elevations
 pub profile_fits : (length rows columns col : ℕ) → record_at rows columns ≤ length → col < columns → elevation_at rows col rows ≤ length

@@ -7,6 +7,7 @@ pub mod Refusal
 pub mod Record
 pub mod Cell
 pub mod CellLaws
+pub mod Counts
 pub mod Good
 pub mod Trouble
 pub mod Words

@@ -4,6 +4,7 @@ ghost use Rattle.dted_cell.specs.Cell.{IsSomeCell};
 ghost use Rattle.dted_cell.specs.Refusal.{refusal_of};
 
 use crate::cell::read_cell;
+use crate::counts::Counts;
 use crate::header::Header;
 use crate::{CellRefusal, CellView};
 use std::marker::Model;
@@ -13,6 +14,7 @@ use std::marker::Model;
 pub struct CellBytes {
     bytes: Vec<u8>,
     header: Header,
+    counts: Counts,
 }
 
 /// The bytes of a file that is no cell, and why.
@@ -24,13 +26,14 @@ pub struct RefusedCell {
 
 impl Model for CellBytes {
     ghost use Rattle.std.specs.Prelude.{List, ℕ};
+    ghost use Rattle.dted_cell.specs.Counts.{IsCounted};
     ghost use Rattle.dted_cell.specs.Good.{IsGood};
 
     ghost Value = { List ℕ };
 
     ghost view = { λ c. c.bytes.items };
 
-    ghost invariant = { λ c. IsGood c.bytes.items c.header };
+    ghost invariant = { λ c. IsGood c.bytes.items c.header × IsCounted c.bytes.items c.counts };
 }
 
 impl CellBytes {
@@ -42,7 +45,11 @@ impl CellBytes {
         ensures returned { IfErr result (λ refused. refused.bytes ≡ bytes) }
     {
         match read_cell(&bytes) {
-            Ok(header) => Ok(CellBytes { bytes, header }),
+            Ok((header, counts)) => Ok(CellBytes {
+                bytes,
+                header,
+                counts,
+            }),
             Err(refusal) => Err(RefusedCell { refusal, bytes }),
         }
     }
@@ -51,7 +58,7 @@ impl CellBytes {
     pub fn view(&self) -> CellView<'_>
         ensures { result ≡ self.now }
     {
-        CellView::of(&self.bytes, self.header)
+        CellView::of(&self.bytes, self.header, self.counts)
     }
 
     /// The file's bytes.

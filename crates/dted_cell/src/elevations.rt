@@ -55,10 +55,8 @@ fn voids_among(words: u16x8) -> u32
     ensures exact { result ≡ count_by (λ w. w == 65535) words }
     ensures few { result ≤ 8 }
 {
-    words
-        .simd_eq(u16x8::splat(0xFFFF))
-        .to_bitmask()
-        .count_ones()
+    let voids = words.simd_eq(u16x8::splat(0xFFFF));
+    voids.to_bitmask().count_ones()
 }
 
 // Numbers in the order of the heights: 32768 more than the height that sign and magnitude say. Minus zero and zero get

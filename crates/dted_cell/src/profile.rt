@@ -1,9 +1,9 @@
 // A column of a cell.
 ghost use Rattle.std.specs.Prelude.{◌≡◌, ◌+◌, ◌*◌, ◌≤◌, length};
-ghost use Rattle.dted_cell.specs.Cell.{AreElevations, post_of_row, is_void_post};
+ghost use Rattle.dted_cell.specs.Cell.{AreElevations, post_of_row};
 ghost use Rattle.dted_cell.specs.Elevation.{IsPost};
 
-use crate::elevation::{VOID, post};
+use crate::elevation::post;
 use crate::field::word;
 use std::marker::Model;
 use terrain_base::Post;
@@ -43,14 +43,6 @@ impl<'a> ProfileView<'a> {
         ensures range { IsPost result }
     {
         post(word(self.elevations, 2 * row as usize))
-    }
-
-    // Whether the post of a row is void.
-    pub(crate) fn is_void(&self, row: u16) -> bool
-        requires { 2 * row + 2 ≤ length self.now }
-        ensures { result ≡ is_void_post (post_of_row self.now row) }
-    {
-        word(self.elevations, 2 * row as usize) == VOID
     }
 
     /// The elevations as they stand in the file.

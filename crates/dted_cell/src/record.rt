@@ -12,11 +12,14 @@ ghost use Rattle.std.specs.Prelude.{
   flat_map,
   fold,
   sum,
+  sum_by,
   count_by,
   IsSome,
   IfSome,
+  IfOk,
   None,
 };
+ghost use Rattle.std.specs.Result.{result_err};
 ghost use Rattle.std.specs.List.{range_with_len};
 ghost use Rattle.dted_cell.specs.Elevation.{signed_of, is_out_of_range};
 ghost use Rattle.dted_cell.specs.Record.{record_at, elevation_at, posts_at, IsRecord};
@@ -29,7 +32,7 @@ ghost use Rattle.dted_cell.specs.Refusal.{
 };
 
 use crate::CellRefusal;
-use crate::counts::Counts;
+use crate::counts::{Counts, join};
 use crate::elevation::{HIGHEST, VOID, signed};
 use crate::field::{long, word};
 use crate::header::HEADER_LENGTH;
@@ -88,6 +91,7 @@ fn good_record(text: &[u8], rows: u16, col: u16) -> Option<Counts>
     requires { record_at rows (col + 1) ≤ length text.now }
     ensures good { IsSome result ↔ IsRecord text.now rows col }
     ensures voids { IfSome result (λ counts. counts.voids ≡ count_by is_void_post (posts_at text.now rows col)) }
+    ensures few { IfSome result (λ counts. counts.voids ≤ rows) }
     ensures extremes { IfSome result (λ counts.
         counts.extremes ≡ fold widened None (posts_at text.now rows col)) }
 {
@@ -131,27 +135,48 @@ fn record_refusal(text: &[u8], rows: u16, col: u16) -> Option<CellRefusal>
     heights_refusal(text, rows, col)
 }
 
-// The same, by one pass where the record is good. Only a record with a fault is walked.
-fn quick_refusal(text: &[u8], rows: u16, col: u16) -> Option<CellRefusal>
+// What the posts of a column's record are counted to, or its refusal. Only a record with a fault is walked.
+fn record_counts(text: &[u8], rows: u16, col: u16) -> Result<Counts, CellRefusal>
     requires { record_at rows (col + 1) ≤ length text.now }
-    ensures { result ≡ first_of (record_conditions text.now rows col) }
+    ensures refusal { result_err result ≡ first_of (record_conditions text.now rows col) }
+    ensures voids { IfOk result (λ counts. counts.voids ≡ count_by is_void_post (posts_at text.now rows col)) }
+    ensures few { IfOk result (λ counts. counts.voids ≤ rows) }
+    ensures extremes { IfOk result (λ counts.
+        counts.extremes ≡ fold widened None (posts_at text.now rows col)) }
 {
-    match good_record(text, rows, col) {
-        Some(_) => None,
-        None => record_refusal(text, rows, col),
+    if let Some(counts) = good_record(text, rows, col) {
+        return Ok(counts);
     }
+    let Some(refusal) = record_refusal(text, rows, col) else {
+        unreachable!()
+    };
+    Err(refusal)
 }
 
-// The refusal of the westernmost record that is not good.
-#[tactic(auto, using(crate::proofs::First::flat_next, crate::proofs::First::flat_found))]
-pub(crate) fn records_refusal(text: &[u8], columns: u16, rows: u16) -> Option<CellRefusal>
+// What the posts of all records are counted to, or the refusal of the westernmost record that is not good.
+#[tactic(auto, using(crate::proofs::First::flat_next, crate::proofs::Columns::sum_next, crate::proofs::Columns::extremes_next))]
+pub(crate) fn records_counts(text: &[u8], columns: u16, rows: u16) -> Result<Counts, CellRefusal>
     requires { record_at rows columns ≤ length text.now }
-    ensures { result ≡ first_of (flat_map (record_conditions text.now rows) (range_with_len 0 columns)) }
+    ensures refusal { result_err result ≡
+        first_of (flat_map (record_conditions text.now rows) (range_with_len 0 columns)) }
+    ensures voids { IfOk result (λ counts. counts.voids ≡
+        sum_by (count_by is_void_post) (map (posts_at text.now rows) (range_with_len 0 columns))) }
+    ensures extremes { IfOk result (λ counts. counts.extremes ≡
+        fold (fold widened) None (map (posts_at text.now rows) (range_with_len 0 columns))) }
 {
+    let mut counts = Counts {
+        voids: 0,
+        extremes: None,
+    };
     for col in 0..columns {
-        if let Some(refusal) = quick_refusal(text, rows, col) {
-            return Some(refusal);
-        }
+        let record = match record_counts(text, rows, col) {
+            Ok(record) => record,
+            Err(refusal) => return Err(refusal),
+        };
+        counts = Counts {
+            voids: counts.voids + record.voids,
+            extremes: join(counts.extremes, record.extremes),
+        };
     }
-    None
+    Ok(counts)
 }

@@ -26,7 +26,6 @@ use terrain_base::Extremes;
 
 // The keys of 16000 metres below and above 0.
 const LOWEST_KEY: u16 = 16768;
-
 const HIGHEST_KEY: u16 = 48768;
 
 // What elevations hold.

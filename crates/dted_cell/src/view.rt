@@ -1,5 +1,5 @@
 // A cell, read where its bytes lie.
-ghost use Rattle.std.specs.Prelude.{◌≡◌, ℕ, ◌+◌, ◌*◌, ◌^◌, ◌<◌, ◌≤◌, ◌↔◌, length, fold, count_by, IfOk, IsOk, OnOk, IfSome, IsNone, None};
+ghost use Rattle.std.specs.Prelude.{◌≡◌, ℕ, ◌+◌, ◌*◌, ◌^◌, ◌<◌, ◌≤◌, ◌↔◌, length, IfOk, IsOk, OnOk, IfSome, IsNone, None};
 ghost use Rattle.std.specs.Result.{result_err};
 ghost use Rattle.dted_cell.specs.Lead.{text_of};
 ghost use Rattle.dted_cell.specs.Record.{record_at};
@@ -13,21 +13,20 @@ ghost use Rattle.dted_cell.specs.Cell.{
   post_in,
   profile_in,
   post_of_row,
-  column_in,
   posts_in,
-  is_void_post,
   voids_in,
-  widened,
   extremes_in,
   IsAllVoid,
   BoundsPosts,
 };
 ghost use Rattle.dted_cell.specs.Elevation.{IsPost};
+ghost use Rattle.dted_cell.specs.Counts.{IsCounted};
 ghost use Rattle.dted_cell.specs.Good.{IsGood};
 ghost use Rattle.dted_cell.specs.Refusal.{refusal_of};
 
 use crate::CellRefusal;
 use crate::cell::read_cell;
+use crate::counts::Counts;
 use crate::elevation::post;
 use crate::field::word;
 use crate::header::Header;
@@ -42,17 +41,19 @@ use terrain_base::{CellLevel, Extremes, Post, Square};
 pub struct CellView<'a> {
     bytes: &'a [u8],
     header: Header,
+    counts: Counts,
 }
 
 impl<'a> Model for CellView<'a> {
     ghost use Rattle.std.specs.Prelude.{List, ℕ};
+    ghost use Rattle.dted_cell.specs.Counts.{IsCounted};
     ghost use Rattle.dted_cell.specs.Good.{IsGood};
 
     ghost Value = { List ℕ };
 
     ghost view = { λ v. v.bytes.now };
 
-    ghost invariant = { λ v. IsGood v.bytes.now v.header };
+    ghost invariant = { λ v. IsGood v.bytes.now v.header × IsCounted v.bytes.now v.counts };
 }
 
 impl<'a> CellView<'a> {
@@ -73,16 +74,21 @@ impl<'a> CellView<'a> {
         ensures view { IfOk result (λ view. view ≡ bytes.now) }
         ensures refusal { result_err result ≡ refusal_of bytes.now }
     {
-        let header = read_cell(bytes)?;
-        Ok(CellView::of(bytes, header))
+        let (header, counts) = read_cell(bytes)?;
+        Ok(CellView::of(bytes, header, counts))
     }
 
-    // The view of a good file by its header.
-    pub(crate) fn of(bytes: &'a [u8], header: Header) -> CellView<'a>
-        requires { IsGood bytes.now header }
+    // The view of a good file by its header and its counts.
+    pub(crate) fn of(bytes: &'a [u8], header: Header, counts: Counts) -> CellView<'a>
+        requires good { IsGood bytes.now header }
+        requires counted { IsCounted bytes.now counts }
         ensures { result ≡ bytes.now }
     {
-        CellView { bytes, header }
+        CellView {
+            bytes,
+            header,
+            counts,
+        }
     }
 
     /// The cell's square.
@@ -151,85 +157,21 @@ impl<'a> CellView<'a> {
         self.profile(col).post(row)
     }
 
-    // How many posts of a column are void.
-    #[tactic(auto, using(crate::proofs::Loops::count_next))]
-    fn voids_of(&self, col: u16) -> u32
-        requires { col < columns_in self.now }
-        ensures exact { result ≡ count_by is_void_post (column_in self.now col) }
-        ensures few { result ≤ rows_in self.now }
-        ensures small { rows_in self.now < 2 ^ 16 }
-    {
-        let profile = self.profile(col);
-        let mut voids: u32 = 0;
-        for row in 0..self.rows() {
-            voids += u32::from(profile.is_void(row));
-        }
-        voids
-    }
-
     /// How many posts are void.
-    #[tactic(auto, using(crate::proofs::Loops::sum_next), unfolding(crate::specs::Cell::voids_in, crate::specs::Cell::posts_in))]
+    #[tactic(auto, using(crate::proofs::Views::view_voids))]
     pub fn voids(&self) -> u32
         ensures { result ≡ voids_in self.now }
     {
-        let mut voids: u32 = 0;
-        for col in 0..self.columns() {
-            voids += self.voids_of(col);
-        }
-        voids
-    }
-
-    // Extremes, with the posts of a column.
-    #[tactic(auto, using(crate::proofs::Loops::fold_next))]
-    fn extremes_with(&self, before: Option<Extremes>, col: u16) -> Option<Extremes>
-        requires { col < columns_in self.now }
-        ensures { result ≡ fold widened before (column_in self.now col) }
-    {
-        let profile = self.profile(col);
-        let mut extremes = before;
-        for row in 0..self.rows() {
-            extremes = widen(extremes, profile.post(row));
-        }
-        extremes
+        self.counts.voids
     }
 
     /// The least and the greatest post. There is none exactly where every post is void.
+    #[tactic(auto, using(crate::proofs::Views::view_extremes))]
     pub fn extremes(&self) -> Option<Extremes>
         ensures none { IsNone result ↔ IsAllVoid self.now }
         ensures bounds { IfSome result (BoundsPosts self.now) }
         ensures value { result ≡ extremes_in self.now }
     {
-        self.extremes_of()
-    }
-
-    // The same, by every post in turn.
-    #[tactic(auto, using(crate::proofs::Loops::fold_next), unfolding(crate::specs::Cell::extremes_in, crate::specs::Cell::posts_in))]
-    fn extremes_of(&self) -> Option<Extremes>
-        ensures { result ≡ extremes_in self.now }
-    {
-        let mut extremes = None;
-        for col in 0..self.columns() {
-            extremes = self.extremes_with(extremes, col);
-        }
-        extremes
-    }
-}
-
-// Extremes, with one post more.
-fn widen(extremes: Option<Extremes>, post: Post) -> Option<Extremes>
-    ensures { result ≡ widened extremes post }
-{
-    match (extremes, post) {
-        (_, Post::Void) => extremes,
-        (None, Post::Metres(z)) => Some(Extremes {
-            least: z,
-            greatest: z,
-        }),
-        (Some(e), Post::Metres(z)) => {
-            Some(Extremes {
-                least: e.least.min(z),
-                greatest: e.greatest.max(z),
-            })
-        }
+        self.counts.extremes
     }
 }

@@ -1,8 +1,11 @@
-use Rattle.std.proofs.Common.{◌≡◌, ◌+◌, ◌*◌, slice_index, count_by, fold, None, refl, sym, ap, ◌∙◌, subst, arith}
+use Rattle.std.proofs.Common.{◌≡◌, ◌+◌, ◌*◌, slice_index, slice_range, map, count_by, fold, None, refl, sym, ap, ◌∙◌, subst, arith}
+use Rattle.std.specs.List.{range_with_len}
+use Rattle.std.proofs.lemmas.List.FromFn.{length-map-range_with_len}
+use Rattle.std.proofs.lemmas.List.Sums.{count_by-le-length}
 use Rattle.dted_cell.specs.Field.{word_at, long_at}
 use Rattle.dted_cell.specs.Elevation.{IsElevation}
 use Rattle.dted_cell.specs.Record.{stated_sum, plain_sum}
-use Rattle.dted_cell.specs.Cell.{is_void_post, widened}
+use Rattle.dted_cell.specs.Cell.{is_void_post, widened, post_of_row}
 use Rattle.dted_cell.proofs.ByteSums.{slice_small}
 use Rattle.dted_cell.proofs.Records.{plain_sum_is, word_there, posts_there}
 use Rattle.dted_cell.proofs.record.good_record.Goals as goal
@@ -43,3 +46,8 @@ returns-clause-voids c = c.in_ok-tally.ensures.voids ∙ ap (count_by is_void_po
 
 pub returns-clause-extremes : goal.returns-clause-extremes
 returns-clause-extremes c = c.in_ok-tally.ensures.extremes ∙ ap (fold widened None) (posts_there c.args.text.now c.record_start-start.result c.args.rows c.args.col c.record_start-start.ensures)
+
+pub returns-clause-few : goal.returns-clause-few
+returns-clause-few c =
+    let rows = post_of_row (slice_range c.args.text.now (c.record_start-start.result + 8) (c.record_start-start.result + 8 + 2 * c.args.rows)) in
+    omega (arith, c.in_ok-tally.ensures.voids, count_by-le-length is_void_post (map rows (range_with_len 0 c.args.rows)), length-map-range_with_len rows 0 c.args.rows)
