@@ -1,9 +1,9 @@
 -- Scaled numbers.
-use Rattle.std.proofs.Common.{◌≡◌, ◌∙◌, ◌≤◌, ◌<◌, ◌*◌, ◌^◌, ℕ, arith, refl, sym, subst, FitsSigned, to_z, of_z, List, [], ◌∷◌, All}
+use Rattle.std.proofs.Common.{◌≡◌, ◌∙◌, ◌≤◌, ◌<◌, ◌^◌, ℕ, arith, refl, sym, subst, FitsSigned, to_z, of_z, List, [], ◌∷◌, All}
 use Rattle.std.proofs.lemmas.Int.{ints, to_z-of_z}
 use Rattle.std.proofs.lemmas.List.Elements.{All-from_recursion}
 use Rattle.std.specs.Int.{int_div_euclid}
-use Rattle.std.specs.Prelude.{ℤ, pos, neg_ℤ, ◌+ℤ◌, ◌-ℤ◌, ◌*ℤ◌, ◌≤ℤ◌, ◌<ℤ◌, unsigned_abs}
+use Rattle.std.specs.Prelude.{ℤ, pos, neg_ℤ, ◌+ℤ◌, ◌-ℤ◌, ◌*ℤ◌, ◌<ℤ◌, unsigned_abs}
 use mir.Syntax.{w64}
 use Rattle.terrain_base.specs.Division.{IsFloor, IsCeil, floor_of, ceil_of}
 use Rattle.terrain_base.proofs.Quotients.{floor_is, floor_is_euclid, floor_once, ceil_is, ceil_once, neg_mul}

@@ -1,4 +1,4 @@
-use Rattle.std.proofs.Common.{◌≡◌, ◌∙◌, ◌^◌, arith, rules, FitsSigned}
+use Rattle.std.proofs.Common.{◌≡◌, ◌∙◌, arith, rules, FitsSigned}
 use Rattle.std.proofs.lemmas.Int.{ints, to_z-of_z}
 use Rattle.std.specs.Prelude.{pos, ◌*ℤ◌}
 use mir.Syntax.{w64}
