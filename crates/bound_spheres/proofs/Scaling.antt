@@ -1,13 +1,13 @@
 -- Scaled numbers.
-use Rattle.std.proofs.Common.{◌≡◌, ◌∙◌, ◌≤◌, ◌<◌, ◌^◌, ℕ, arith, refl, sym, subst, FitsSigned, to_z, of_z, List, [], ◌∷◌, All}
-use Rattle.std.proofs.lemmas.Int.{ints, to_z-of_z}
+use Rattle.std.proofs.Common.{◌≡◌, ◌∙◌, ◌≤◌, ◌<◌, ◌^◌, ℕ, arith, refl, sym, subst, List, [], ◌∷◌, All}
+use Rattle.std.proofs.lemmas.Int.{ints}
 use Rattle.std.proofs.lemmas.List.Elements.{All-from_recursion}
 use Rattle.std.specs.Int.{int_div_euclid}
 use Rattle.std.specs.Prelude.{ℤ, pos, neg_ℤ, ◌+ℤ◌, ◌-ℤ◌, ◌*ℤ◌, ◌<ℤ◌, unsigned_abs}
-use mir.Syntax.{w64}
 use Rattle.terrain_base.specs.Division.{IsFloor, IsCeil, floor_of, ceil_of}
 use Rattle.terrain_base.proofs.Quotients.{floor_is, floor_is_euclid, floor_once, ceil_is, ceil_once, neg_mul}
 use Rattle.ecef_boxes.specs.Ellipsoid.{semi_major_axis}
+use Rattle.ecef_boxes.specs.Bounds.{IsBoxWithin}
 use Rattle.ecef_boxes.specs.declared.ecef_box.EcefBox.{EcefBox}
 use Rattle.bound_spheres.specs.declared.scaled.Vector.{Vector}
 use Rattle.bound_spheres.specs.Horizon.{IsVectorWithin, equatorial_down, equatorial_up, polar_down, polar_up, polar_numerator, polar_divisor}
@@ -105,18 +105,20 @@ unflattened_few n h =
     let f = floor_is (n *ℤ pos polar_numerator) (pos 297257223563) (omega (arith, ints)) in
     omega (arith, ints, h, f.low, f.high)
 
-pub corners_within : (west east near far low high : ℤ) → unsigned_abs west ≤ 2 ^ 21 → unsigned_abs east ≤ 2 ^ 21
+all_within : (west east near far low high : ℤ) → unsigned_abs west ≤ 2 ^ 21 → unsigned_abs east ≤ 2 ^ 21
     → unsigned_abs near ≤ 2 ^ 21 → unsigned_abs far ≤ 2 ^ 21 → unsigned_abs low ≤ 2 ^ 21 → unsigned_abs high ≤ 2 ^ 21
     → All (IsVectorWithin 21) (vector west near low ∷ vector west near high ∷ vector west far low ∷ vector west far high
     ∷ vector east near low ∷ vector east near high ∷ vector east far low ∷ vector east far high ∷ [])
-corners_within west east near far low high w e n f l h =
+all_within west east near far low high w e n f l h =
     All-from_recursion (IsVectorWithin 21)
     (vector west near low ∷ vector west near high ∷ vector west far low ∷ vector west far high
     ∷ vector east near low ∷ vector east near high ∷ vector east far low ∷ vector east far high ∷ [])
     (record { x = w; y = n; z = l }, (record { x = w; y = n; z = h }, (record { x = w; y = f; z = l }, (record { x = w; y = f; z = h }, (record { x = e; y = n; z = l }, (record { x = e; y = n; z = h }, (record { x = e; y = f; z = l }, (record { x = e; y = f; z = h }, tt))))))))
 
-pub few_back : (n : ℤ) → FitsSigned w64 n → unsigned_abs n ≤ 2 ^ 21 → unsigned_abs (to_z w64 (of_z w64 n)) ≤ 2 ^ 21
-few_back n f h = simp to_z-of_z h
+pub corners_within : (b : EcefBox) → IsBoxWithin 33 b → All (IsVectorWithin 21) (scaled_corners b)
+corners_within b h =
+    all_within _ _ _ _ _ _ (equatorial_down_few b.x_lo h.x_lo) (equatorial_up_few b.x_hi h.x_hi) (equatorial_down_few b.y_lo h.y_lo)
+    (equatorial_up_few b.y_hi h.y_hi) (polar_down_few b.z_lo h.z_lo) (polar_up_few b.z_hi h.z_hi)
 
 -- for the code
 pub corners_are : (b : EcefBox) (west east near far low high : ℤ) → west ≡ equatorial_down b.x_lo → east ≡ equatorial_up b.x_hi

@@ -3,7 +3,7 @@ ghost use Rattle.std.specs.Prelude.{◌≡◌, ◌≤◌, ◌^◌, ◌*ℤ◌, p
 ghost use Rattle.terrain_base.specs.Division.{floor_of};
 ghost use Rattle.ecef_boxes.specs.Bounds.{IsBoxWithin};
 ghost use Rattle.bound_spheres.specs.Horizon.{IsVectorWithin, equatorial_down, equatorial_up, polar_down, polar_up};
-ghost use Rattle.bound_spheres.specs.Horizon.{polar_numerator, scaled_centre, scaled_corners};
+ghost use Rattle.bound_spheres.specs.Horizon.{polar_numerator, scaled_centre, scaled_corners, vector};
 ghost use Rattle.bound_spheres.specs.Sphere.{IsCentreWithin};
 
 use crate::Sphere;
@@ -93,6 +93,13 @@ pub fn centre_of(sphere: &Sphere) -> Vector
     }
 }
 
+// A corner of three numbers.
+fn corner(x: i64, y: i64, z: i64) -> Vector
+    ensures { result ≡ vector x y z }
+{
+    Vector { x, y, z }
+}
+
 /// The corners of a box in the same units, rounded outwards.
 pub fn corners_of(corners: &EcefBox) -> [Vector; 8]
     requires { IsBoxWithin 33 corners.now }
@@ -106,45 +113,13 @@ pub fn corners_of(corners: &EcefBox) -> [Vector; 8]
     let low = polar_low(corners.z_lo);
     let high = polar_high(corners.z_hi);
     [
-        Vector {
-            x: west,
-            y: near,
-            z: low,
-        },
-        Vector {
-            x: west,
-            y: near,
-            z: high,
-        },
-        Vector {
-            x: west,
-            y: far,
-            z: low,
-        },
-        Vector {
-            x: west,
-            y: far,
-            z: high,
-        },
-        Vector {
-            x: east,
-            y: near,
-            z: low,
-        },
-        Vector {
-            x: east,
-            y: near,
-            z: high,
-        },
-        Vector {
-            x: east,
-            y: far,
-            z: low,
-        },
-        Vector {
-            x: east,
-            y: far,
-            z: high,
-        },
+        corner(west, near, low),
+        corner(west, near, high),
+        corner(west, far, low),
+        corner(west, far, high),
+        corner(east, near, low),
+        corner(east, near, high),
+        corner(east, far, low),
+        corner(east, far, high),
     ]
 }
