@@ -1,6 +1,6 @@
 -- The function for the sphere of boxes.
 use Rattle.std.proofs.Common.{◌≡◌, ℕ, ◌+◌, ◌*◌, ◌^◌, ◌<◌, ◌≤◌, arith, Bool, true, false, nat_eq, refl, inl, inr, List, [], ◌∷◌, length, All}
-use Rattle.std.specs.Prelude.{ℤ, unsigned_abs, fold, if◌then◌else◌}
+use Rattle.std.specs.Prelude.{unsigned_abs, fold, if◌then◌else◌}
 use Rattle.std.proofs.lemmas.Bool.Decides.{nat_tests}
 use Rattle.std.proofs.lemmas.Bool.{cases_lt}
 use Rattle.std.proofs.Math.Nat.{mul-le-mul}

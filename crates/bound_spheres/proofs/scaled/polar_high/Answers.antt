@@ -1,31 +1,21 @@
-use Rattle.std.proofs.Common.{◌≡◌, ◌≤◌, ◌^◌, arith, rules, FitsSigned}
+use Rattle.std.proofs.Common.{◌≡◌, ◌∙◌, ap, arith, rules, FitsSigned}
 use Rattle.std.proofs.lemmas.Int.{ints, to_z-of_z}
-use Rattle.std.specs.Prelude.{pos, ◌*ℤ◌, unsigned_abs}
-use mir.Syntax.{w64, w128}
-use Rattle.bound_spheres.specs.Horizon.{polar_up, polar_numerator}
+use Rattle.std.specs.Prelude.{pos, neg_ℤ, ◌-ℤ◌}
+use mir.Syntax.{w64}
+use Rattle.bound_spheres.specs.Horizon.{polar_down, polar_up}
 use Rattle.bound_spheres.proofs.Scaling.{polar_up_few, polar_up_is}
 use Rattle.bound_spheres.proofs.scaled.polar_high.Goals as goal
-
-pub overflow_cast-result : goal.overflow_cast-result
-overflow_cast-result c =
-    let n = c.args.n in
-    let small : FitsSigned w64 n = search rules in
-    let wide : FitsSigned w128 n = search rules in
-    let product : FitsSigned w128 (n *ℤ pos polar_numerator) = omega (arith, ints, c.requires) in
-    let whole : FitsSigned w128 c.ceil_div.result = search rules in
-    let exact : c.ceil_div.result ≡ polar_up n = polar_up_is n c.ceil_div.result (simp to_z-of_z at c.ceil_div.ensures.exact) in
-    let size : unsigned_abs c.ceil_div.result ≤ 2 ^ 21 = rw exact (polar_up_few n c.requires) in
-    let fits : FitsSigned w64 c.ceil_div.result = omega (arith, ints, size) in
-    simp to_z-of_z fits
 
 pub returns : goal.returns
 returns c =
     let n = c.args.n in
+    let low = c.polar_low.result in
     let small : FitsSigned w64 n = search rules in
-    let wide : FitsSigned w128 n = search rules in
-    let product : FitsSigned w128 (n *ℤ pos polar_numerator) = omega (arith, ints, c.requires) in
-    let whole : FitsSigned w128 c.ceil_div.result = search rules in
-    let exact : c.ceil_div.result ≡ polar_up n = polar_up_is n c.ceil_div.result (simp to_z-of_z at c.ceil_div.ensures.exact) in
-    let size : unsigned_abs c.ceil_div.result ≤ 2 ^ 21 = rw exact (polar_up_few n c.requires) in
-    let fits : FitsSigned w64 c.ceil_div.result = omega (arith, ints, size) in
-    record { exact = simp to_z-of_z exact; size = simp to_z-of_z size }
+    let turned_fits : FitsSigned w64 (pos 0 -ℤ n) = omega (arith, ints, c.requires) in
+    let turned : pos 0 -ℤ n ≡ neg_ℤ n = omega (arith, ints) in
+    let low_fits : FitsSigned w64 low = search rules in
+    let back_fits : FitsSigned w64 (pos 0 -ℤ low) = omega (arith, ints, c.polar_low.ensures.size) in
+    let back : pos 0 -ℤ low ≡ neg_ℤ low = omega (arith, ints) in
+    let low_is : low ≡ polar_down (neg_ℤ n) = rw turned at (simp to_z-of_z at c.polar_low.ensures.exact) in
+    let exact : pos 0 -ℤ low ≡ polar_up n = back ∙ ap neg_ℤ low_is ∙ polar_up_is n in
+    record { exact = simp to_z-of_z exact; size = simp to_z-of_z (rw exact (polar_up_few n c.requires)) }
