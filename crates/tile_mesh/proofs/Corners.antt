@@ -3,13 +3,12 @@ use Rattle.std.proofs.Common.{◌≡◌, ℕ, suc, ◌+◌, arith, Bool, true, f
 use Rattle.std.specs.Prelude.{ℤ}
 use Rattle.std.specs.List.{position_or_len, list_any}
 use Rattle.std.proofs.lemmas.Bool.Decides.{nat_tests}
-use Rattle.indexmap.specs.IndexSet.{insert_key, insert_all}
 use Rattle.mesh_plane.specs.Triangles.{Triple}
 use Rattle.mesh_plane.proofs.Scales.{placed}
 use Rattle.tile_mesh.specs.declared.point.GridPoint.{GridPoint}
 use Rattle.tile_mesh.specs.declared.point.MeshPoint.{MeshPoint}
 use Rattle.tile_mesh.specs.Mesh.{vertex_at, mesh_from}
-use Rattle.tile_mesh.specs.Numbers.{point_eq, first_uses, corners, numbered}
+use Rattle.tile_mesh.specs.Numbers.{point_eq, first_uses, corners, numbered, with_point, with_points}
 use Rattle.tile_mesh.specs.Plane.{vertex, triangle_of, triangles_in}
 use Rattle.tile_mesh.proofs.Placing.{place, height}
 use Rattle.tile_mesh.proofs.Steps.{keys_after, found_key, found_on}
@@ -48,11 +47,11 @@ AreFound ks (t ∷ ts) =
     (list_any (point_eq t.a) ks ≡ true) × (list_any (point_eq t.b) ks ≡ true) × (list_any (point_eq t.c) ks ≡ true)
     × AreFound ks ts
 
-pub found : (ts : List (Triple GridPoint)) (ks : List GridPoint) → AreFound (insert_all point_eq ks (corners ts)) ts
+pub found : (ts : List (Triple GridPoint)) (ks : List GridPoint) → AreFound (with_points ks (corners ts)) ts
 found [] ks = tt
 found (t ∷ ts) ks =
-    let k₁ = insert_key point_eq ks t.a in let k₂ = insert_key point_eq k₁ t.b in
-    let k₃ = insert_key point_eq k₂ t.c in (
+    let k₁ = with_point ks t.a in let k₂ = with_point k₁ t.b in
+    let k₃ = with_point k₂ t.c in (
       found_on t.a k₁ (t.b ∷ t.c ∷ corners ts) (found_key t.a ks),
       found_on t.b k₂ (t.c ∷ corners ts) (found_key t.b k₁),
       found_on t.c k₃ (corners ts) (found_key t.c k₂),
@@ -70,7 +69,7 @@ triangles_are grid ks (t ∷ ts) f =
 pub triangles_placed : (grid : List ℤ) (ts : List (Triple GridPoint))
     → triangles_in (mesh_from grid ts) ≡ map (placed place (height grid)) ts
 triangles_placed grid ts =
-    let ks = insert_all point_eq [] (corners ts) in
+    let ks = with_points [] (corners ts) in
     let e : ks ≡ first_uses [] (corners ts) = keys_after (corners ts) [] in
     ap (λ (qs : List GridPoint). map (triangle_of (map (vertex_at grid) qs)) (map (numbered qs) ts)) (sym e)
     ∙ triangles_are grid ks ts (found ts [])

@@ -6,8 +6,7 @@ use Rattle.std.specs.declared.result.Result.{Result}
 use Rattle.std.specs.List.{list_any, IsDistinct, AllByRecursion}
 use Rattle.std.proofs.lemmas.Map.Steps.{length-le_from_distinct_below}
 use Rattle.tile_mesh.specs.declared.point.GridPoint.{GridPoint}
-use Rattle.tile_mesh.specs.Numbers.{point_eq, AreOnGrid, IsOnGrid}
-use Rattle.indexmap.specs.IndexSet.{insert_key}
+use Rattle.tile_mesh.specs.Numbers.{point_eq, AreOnGrid, IsOnGrid, with_point}
 
 code : GridPoint → ℕ
 code p = 67 * p.j + p.i
@@ -54,7 +53,7 @@ few ks d h = let l = length-le_from_distinct_below (map code ks) 4489 (codes_dis
 same_small : (a b c d : ℕ) → (nat_eq a c && nat_eq b d) ≡ true → c ≤ 66 → d ≤ 66 → (a ≤ 66) × (b ≤ 66)
 same_small a b c d e h k = (grind (arith, nat_tests), grind (arith, nat_tests))
 
-small_last : (p : GridPoint) (ks : List GridPoint) → IsOnGrid p → AreOnGrid ks → AreOnGrid (ks ++ p ∷ [])
+pub small_last : (p : GridPoint) (ks : List GridPoint) → IsOnGrid p → AreOnGrid ks → AreOnGrid (ks ++ p ∷ [])
 small_last p [] s h q e = let f : point_eq q p ≡ true = or_false (point_eq q p) e in same_small q.i q.j p.i p.j f s.column s.row
   where
     or_false : (a : Bool) → (a || false) ≡ true → a ≡ true
@@ -66,12 +65,12 @@ small_last p (k ∷ ks) s h q e = go (point_eq q k) refl e (small_last p ks s (r
     go true f g r = let z = h k (first_found k ks) in same_small q.i q.j k.i k.j f z.0 z.1
     go false f g r = r g
 
-pub small_put : (p : GridPoint) (ks : List GridPoint) → IsOnGrid p → AreOnGrid ks → AreOnGrid (insert_key point_eq ks p)
+pub small_put : (p : GridPoint) (ks : List GridPoint) → IsOnGrid p → AreOnGrid ks → AreOnGrid (with_point ks p)
 small_put p ks s h = (elim (list_any (point_eq p) ks) as (λ b. AreOnGrid (cond b ks (ks ++ p ∷ []))) [ true ↦ h | false ↦ small_last p ks s h ])
 
 -- the points after one was put, or not
 pub put_on_grid : {T E : Type 0} (r : Result T E) (p : GridPoint) (ks ks' : List GridPoint)
-    → IfOk r (λ _. ks' ≡ insert_key point_eq ks p) → OnErr r (ks' ≡ ks) → IsOnGrid p → AreOnGrid ks → AreOnGrid ks'
+    → IfOk r (λ _. ks' ≡ with_point ks p) → OnErr r (ks' ≡ ks) → IsOnGrid p → AreOnGrid ks → AreOnGrid ks'
 put_on_grid (Ok x) p ks ks' h k s a = subst (λ (qs : List GridPoint). AreOnGrid qs) (sym h) (small_put p ks s a)
 put_on_grid (Err e) p ks ks' h k s a = subst (λ (qs : List GridPoint). AreOnGrid qs) (sym k) a
 

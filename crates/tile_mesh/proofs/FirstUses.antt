@@ -4,13 +4,12 @@ use Rattle.std.specs.Prelude.{slice_index_or, Contains, ◌⊎◌}
 use Rattle.std.specs.List.{position_or_len, list_any, IsDistinct, AllByRecursion}
 use Rattle.std.proofs.lemmas.Bool.Decides.{nat_tests}
 use Rattle.std.proofs.lemmas.List.Elements.{Contains-append_right, Contains-append_cases}
-use Rattle.indexmap.specs.IndexSet.{insert_key, insert_all}
 use Rattle.mesh_plane.specs.Triangles.{Triple}
 use Rattle.mesh_plane.proofs.ListWords.{all_from}
 use Rattle.mesh_plane.proofs.Tilings.{all_map}
 use Rattle.tile_mesh.specs.declared.point.GridPoint.{GridPoint}
 use Rattle.tile_mesh.specs.Sides.{grid_point}
-use Rattle.tile_mesh.specs.Numbers.{point_eq, first_uses, corners, numbered}
+use Rattle.tile_mesh.specs.Numbers.{point_eq, first_uses, corners, numbered, with_point, with_points}
 use Rattle.tile_mesh.specs.Numbering.{first_use, named, ArePoints, IsNumbering}
 use Rattle.tile_mesh.proofs.Steps.{keys_after}
 use Rattle.tile_mesh.proofs.Corners.{AreFound, found}
@@ -66,7 +65,7 @@ or_first : (a b : Bool) → a ≡ true → (a || b) ≡ true
 or_first true b e = refl
 or_first false b e = absurd (let z = e in cc)
 
-put_any : (p k : GridPoint) (ks : List GridPoint) → list_any (point_eq p) (insert_key point_eq ks k) ≡ (list_any (point_eq p) ks || point_eq p k)
+put_any : (p k : GridPoint) (ks : List GridPoint) → list_any (point_eq p) (with_point ks k) ≡ (list_any (point_eq p) ks || point_eq p k)
 put_any p k ks = go (list_any (point_eq k) ks) refl
   where
     last : (ks : List GridPoint) → list_any (point_eq p) (ks ++ k ∷ []) ≡ (list_any (point_eq p) ks || point_eq p k)
@@ -93,14 +92,14 @@ put_any p k ks = go (list_any (point_eq k) ks) refl
     go true e = stays (point_eq p k) refl e
     go false e = last ks
 
-put_all_any : (p : GridPoint) (ks ps : List GridPoint) → list_any (point_eq p) (insert_all point_eq ks ps) ≡ (list_any (point_eq p) ks || list_any (point_eq p) ps)
+put_all_any : (p : GridPoint) (ks ps : List GridPoint) → list_any (point_eq p) (with_points ks ps) ≡ (list_any (point_eq p) ks || list_any (point_eq p) ps)
 put_all_any p ks [] = or_none (list_any (point_eq p) ks)
   where
     or_none : (a : Bool) → a ≡ (a || false)
     or_none true = refl
     or_none false = refl
 put_all_any p ks (k ∷ ps) =
-    put_all_any p (insert_key point_eq ks k) ps
+    put_all_any p (with_point ks k) ps
     ∙ ap (λ (b : Bool). b || list_any (point_eq p) ps) (put_any p k ks)
     ∙ or_assoc (list_any (point_eq p) ks) (point_eq p k) (list_any (point_eq p) ps)
   where
@@ -112,7 +111,7 @@ pub first_any : (p : GridPoint) (ps : List GridPoint) → list_any (point_eq p) 
 first_any p ps = ap (list_any (point_eq p)) (sym (keys_after ps [])) ∙ put_all_any p [] ps
 
 -- ---- order
-place_of : (p : GridPoint) (ks more : List GridPoint) → list_any (point_eq p) ks ≡ false → position_or_len (point_eq p) (ks ++ p ∷ more) ≡ length ks
+pub place_of : (p : GridPoint) (ks more : List GridPoint) → list_any (point_eq p) ks ≡ false → position_or_len (point_eq p) (ks ++ p ∷ more) ≡ length ks
 place_of p [] more h = rw (point_itself p)
 place_of p (k ∷ ks) more h = (elim (point_eq p k) as (λ b. (b || list_any (point_eq p) ks) ≡ false → cond (not b) ((1 + position_or_len (point_eq p) (ks ++ p ∷ more))) 0 ≡ suc (length ks)) [
   | true ↦ λ e. absurd (let z = e in cc)
@@ -129,7 +128,7 @@ Later all n p = n ≤ position_or_len (point_eq p) all
 abbrev Before : List GridPoint → GridPoint → GridPoint → Type 0
 Before all p q = position_or_len (point_eq p) all < position_or_len (point_eq q) all
 
-any_push : (p k : GridPoint) (ks : List GridPoint) → list_any (point_eq p) (ks ++ k ∷ []) ≡ (list_any (point_eq p) ks || point_eq p k)
+pub any_push : (p k : GridPoint) (ks : List GridPoint) → list_any (point_eq p) (ks ++ k ∷ []) ≡ (list_any (point_eq p) ks || point_eq p k)
 any_push p k [] = or_false (point_eq p k)
   where
     or_false : (a : Bool) → (a || false) ≡ a

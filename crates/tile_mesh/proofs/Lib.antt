@@ -22,6 +22,7 @@ pub mod Merges
 pub mod MeshNumbers
 pub mod Nearness
 pub mod Parents
+pub mod Places
 pub mod Placing
 pub mod Ranges
 pub mod Seams

@@ -7,4 +7,4 @@ use Rattle.tile_mesh.specs.Numbers.{Adds}
 
 -- the triangles ts were added to a mesh
 abbrev pub Grows : List (Triple GridPoint) → Builder → Builder → Type 0
-Grows ts old new = Adds ts old.points.keys new.points.keys old.triangles.items new.triangles.items
+Grows ts old new = Adds ts old.points.items new.points.items old.triangles.items new.triangles.items

@@ -1,7 +1,7 @@
 -- Points numbered by first use.
-use Rattle.std.specs.Prelude.{◌≡◌, ◌≤◌, Bool, true, List, [], ◌∷◌, ◌++◌, nat_eq, ◌&&◌, if◌then◌else◌}
+use Rattle.std.specs.Prelude.{◌≡◌, ℕ, ◌≤◌, Bool, true, List, [], ◌∷◌, ◌++◌, nat_eq, ◌&&◌, if◌then◌else◌, Option, None, slice_index_or, position}
 use Rattle.std.specs.List.{position_or_len, list_any}
-use Rattle.indexmap.specs.IndexSet.{insert_all}
+use Rattle.terrain_base.specs.Grid.{spot}
 use Rattle.mesh_plane.specs.Triangles.{Triple}
 use Rattle.terrain_base.specs.declared.indexes.Indexes.{Indexes}
 use Rattle.tile_mesh.specs.declared.point.GridPoint.{GridPoint}
@@ -18,6 +18,21 @@ AreOnGrid points = (p : GridPoint) → list_any (point_eq p) points ≡ true →
 
 abbrev pub triple : GridPoint → GridPoint → GridPoint → Triple GridPoint
 triple a b c = record { a = a; b = b; c = c }
+
+-- the points and this one, which comes last if it is not among them
+abbrev pub with_point : List GridPoint → GridPoint → List GridPoint
+with_point points p = if list_any (point_eq p) points then points else points ++ p ∷ []
+
+-- the points and these, one after the other
+abbrev pub with_points : List GridPoint → List GridPoint → List GridPoint
+with_points points [] = points
+with_points points (p ∷ ps) = with_points (with_point points p) ps
+
+-- a table by grid point, row by row from the south, of its place among the points
+abbrev pub ArePlaces : List (Option ℕ) → List GridPoint → Type 0
+ArePlaces places points =
+    (p : GridPoint) → IsOnGrid p
+    → slice_index_or places (spot p.i p.j) None ≡ position (point_eq p) points
 
 -- the points that are not among those seen, each where it comes first
 abbrev pub first_uses : List GridPoint → List GridPoint → List GridPoint
@@ -43,11 +58,11 @@ numbered points t = record {
 abbrev pub numbered_on : List GridPoint → List (Triple GridPoint) → List Indexes
 numbered_on points [] = []
 numbered_on points (t ∷ ts) =
-    numbered (insert_all point_eq points (t.a ∷ t.b ∷ t.c ∷ [])) t
-    ∷ numbered_on (insert_all point_eq points (t.a ∷ t.b ∷ t.c ∷ [])) ts
+    numbered (with_points points (t.a ∷ t.b ∷ t.c ∷ [])) t
+    ∷ numbered_on (with_points points (t.a ∷ t.b ∷ t.c ∷ [])) ts
 
 -- the triangles ts were added
 pub record Adds (ts : List (Triple GridPoint)) (ps ps' : List GridPoint)
     (is is' : List Indexes) : Type 0 where
-  pub points : ps' ≡ insert_all point_eq ps (corners ts)
+  pub points : ps' ≡ with_points ps (corners ts)
   pub triangles : is' ≡ is ++ numbered_on ps ts

@@ -40,7 +40,7 @@ impl Builder {
 
     /// The mesh, whose vertices lie on a grid.
     fn finish(self, alloc: Global, grid: &Grid) -> Result<TileMesh, NoMemory>
-        ensures { IfOk result (λ mesh. mesh ≡ mesh_on grid.now self.points.keys self.triangles.items) }
+        ensures { IfOk result (λ mesh. mesh ≡ mesh_on grid.now self.points.items self.triangles.items) }
     {
         let points = self.vertices(alloc, grid)?;
         let west = self.edge(alloc, Side::West)?;
@@ -61,9 +61,9 @@ impl Builder {
 /// All triangles of a grid.
 fn triangulated(alloc: Global, grid: &Grid, tol: u16, splits: &Splits) -> Result<Builder, NoMemory>
     ensures { let ts = triangles_of (bit_at splits.now) (kept_on grid.now tol) in
-        IfOk result (λ builder. Adds ts [] builder.points.keys [] builder.triangles.items) }
+        IfOk result (λ builder. Adds ts [] builder.points.items [] builder.triangles.items) }
 {
-    let mut builder = Builder::new(alloc);
+    let mut builder = Builder::new(alloc)?;
     builder.border(alloc, grid, tol, splits, Side::South)?;
     builder.border(alloc, grid, tol, splits, Side::East)?;
     builder.border(alloc, grid, tol, splits, Side::North)?;

@@ -1,46 +1,72 @@
 // A mesh that grows by triangles, whose points are numbered by first use.
-ghost use Rattle.std.specs.Prelude.{◌≡◌, [], ◌∷◌, ◌≤◌, IfOk, OnOk, length};
-ghost use Rattle.std.specs.List.{position_or_len};
-ghost use Rattle.indexmap.specs.IndexSet.{insert_key};
-ghost use Rattle.tile_mesh.specs.Numbers.{IsOnGrid, AreOnGrid, point_eq, triple};
+ghost use Rattle.std.specs.Prelude.{◌≡◌, [], ◌∷◌, None, length, position, replicate, IfOk, OnOk};
+ghost use Rattle.std.specs.List.{position_or_len, IsDistinct};
+ghost use Rattle.std.proofs.Props.{props};
+ghost use Rattle.std.proofs.lemmas.Map.Keys.{IsDistinct-prop};
+ghost use Rattle.tile_mesh.specs.Numbers.{IsOnGrid, AreOnGrid, ArePlaces, point_eq, triple, with_point};
 
 use crate::point::GridPoint;
-use indexmap::IndexSet;
 use std::alloc::Global;
 use terrain_base::{Indexes, NoMemory};
 
-/// A mesh that grows.
+/// A mesh that grows, and the number of each grid point that has one: a look-up by place is faster than one by hash.
 #[derive(Drop)]
 pub(crate) struct Builder {
-    pub(crate) points: IndexSet<GridPoint>,
+    pub(crate) points: Vec<GridPoint>,
+    numbers: Vec<Option<u16>>,
     pub(crate) triangles: Vec<Indexes>,
-    ghost on_grid: { AreOnGrid points.keys },
-    ghost few: { length points.keys ≤ 4489 },
+    ghost on_grid: { AreOnGrid points.items },
+    ghost distinct: { IsDistinct point_eq points.items } by { IsDistinct-prop point_eq points.items },
+    ghost full: { length numbers.items ≡ 4489 },
+    ghost places: { ArePlaces numbers.items points.items } by { Prim.hlevel props },
+}
+
+/// A table in which no grid point has a number.
+fn no_numbers(alloc: Global) -> Result<Vec<Option<u16>>, NoMemory>
+    ensures { IfOk result (λ numbers. numbers.items ≡ replicate 4489 None) }
+{
+    let mut numbers = Vec::new(alloc);
+    numbers.resize(4489, None)?;
+    Ok(numbers)
 }
 
 impl Builder {
     ghost use Rattle.tile_mesh.specs.Growth.{Grows};
 
     /// A mesh without triangles.
-    pub(crate) fn new(alloc: Global) -> Builder
-        ensures points { result.points.keys ≡ [] }
-        ensures triangles { result.triangles.items ≡ [] }
+    pub(crate) fn new(alloc: Global) -> Result<Builder, NoMemory>
+        ensures points { IfOk result (λ builder. builder.points.items ≡ []) }
+        ensures triangles { IfOk result (λ builder. builder.triangles.items ≡ []) }
     {
-        Builder {
-            points: IndexSet::new(alloc),
+        Ok(Builder {
+            points: Vec::new(alloc),
+            numbers: no_numbers(alloc)?,
             triangles: Vec::new(alloc),
-        }
+        })
+    }
+
+    /// The number of a grid point that has one.
+    pub(crate) fn number_of(&self, point: GridPoint) -> Option<u16>
+        requires { IsOnGrid point }
+        ensures { result ≡ position (point_eq point) self.now.points.items }
+    {
+        self.numbers[point.spot()]
     }
 
     /// The number of a point.
     fn number(&mut self, point: GridPoint) -> Result<u32, NoMemory>
         requires { IsOnGrid point }
-        ensures number { IfOk result (λ n. n ≡ position_or_len (point_eq point) self.old.points.keys) }
-        ensures points { OnOk result (self.new.points.keys ≡ insert_key point_eq self.old.points.keys point) }
+        ensures number { IfOk result (λ n. n ≡ position_or_len (point_eq point) self.old.points.items) }
+        ensures points { OnOk result (self.new.points.items ≡ with_point self.old.points.items point) }
         ensures rest { self.new.triangles.items ≡ self.old.triangles.items }
     {
-        let (number, _) = self.points.insert_full(point)?;
-        Ok(number as u32)
+        if let Some(number) = self.number_of(point) {
+            return Ok(u32::from(number));
+        }
+        let number = self.points.len() as u16;
+        self.points.push(point)?;
+        self.numbers[point.spot()] = Some(number);
+        Ok(u32::from(number))
     }
 
     /// Adds a triangle.

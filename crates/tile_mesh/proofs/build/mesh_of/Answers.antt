@@ -19,8 +19,8 @@ unfolding mesh_of_grid
 returns c =
     let grid = c.args.grid.now in let tol = c.tolerance-tol.result in
     let bits = c.split_map-splits.result in let b = c.in_ok-builder.builder in
-    let same : mesh_on grid b.points.keys b.triangles.items ≡ mesh_of_grid grid c.args.z =
-    is_mesh grid (triangles_of (bit_at bits) (kept_on grid tol)) b.points.keys b.triangles.items c.in_ok-builder.ensures
+    let same : mesh_on grid b.points.items b.triangles.items ≡ mesh_of_grid grid c.args.z =
+    is_mesh grid (triangles_of (bit_at bits) (kept_on grid tol)) b.points.items b.triangles.items c.in_ok-builder.ensures
     ∙ ap (λ (p : ℕ → ℕ → ℕ → Bool). mesh_from grid (triangles_of p (kept_on grid tol)))
     (same_split grid tol bits c.split_map-splits.ensures)
     ∙ ap (λ (t : ℕ). mesh_from grid (triangles_of (is_split grid t) (kept_on grid t))) c.tolerance-tol.ensures.value in

@@ -28,6 +28,6 @@ returns t c =
     ≡ leaves grid_point p (midpoints_of p) n.level n.x n.y =
     ap (λ (m : quadtree.Midpoints). leaf_at (n.side / 2) n.i n.j m) c.midpoints_at.ensures
     ∙ sym (leaf_is p (midpoints_of p) n c.if-node-eq0.false (sym c.if-split_at.ensures) c.requires.node) in
-    subst (λ (ts : List (Triple GridPoint)). OnOk c.larger.result (Adds ts c.args.self.now.points.keys
-    c.larger.new.self.points.keys c.args.self.now.triangles.items c.larger.new.self.triangles.items)) e
+    subst (λ (ts : List (Triple GridPoint)). OnOk c.larger.result (Adds ts c.args.self.now.points.items
+    c.larger.new.self.points.items c.args.self.now.triangles.items c.larger.new.self.triangles.items)) e
     c.larger.ensures

@@ -7,8 +7,8 @@ use Rattle.tile_mesh.proofs.builder.Builder.border.Goals as goal
 pub returns : goal.returns
 unfolding border_triangles
 returns c =
-    let adds = λ (outer inner : List ℕ). Adds (strip_triangles c.args.side outer inner) c.args.self.now.points.keys
-    c.strip.new.self.points.keys c.args.self.now.triangles.items c.strip.new.self.triangles.items in
+    let adds = λ (outer inner : List ℕ). Adds (strip_triangles c.args.side outer inner) c.args.self.now.points.items
+    c.strip.new.self.points.items c.args.self.now.triangles.items c.strip.new.self.triangles.items in
     subst (λ (inner : List ℕ). adds (kept_on c.args.grid.now c.args.tol c.args.side) inner)
     (c.deref-2.ensures.value ∙ c.in_ok-inner.ensures.indexes)
     (subst (λ (outer : List ℕ). adds outer c.deref-2.result.now)

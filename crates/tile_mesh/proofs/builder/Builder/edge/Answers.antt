@@ -14,7 +14,7 @@ loop-index-init c = rw c.new-numbers.ensures.items refl
 
 pub loop-index-preserved : goal.loop-index-preserved
 loop-index-preserved c =
-    let h = λ (p : GridPoint). position (point_eq p) c.args.self.now.points.keys in
+    let h = λ (p : GridPoint). position (point_eq p) c.args.self.now.points.items in
     numbers_step h (outer_at c.args.side) c.loop-index.numbers.items c.push_number.new.numbers.items
     c.loop-index.index 67 c.loop-index-test.true
     (c.in_ok-push_number.ensures

@@ -8,5 +8,5 @@ use Rattle.tile_mesh.proofs.builder.Builder.edge.Given as goal
 
 abbrev pub invariant-loop-index : goal.invariant-loop-index
 invariant-loop-index l =
-    l.numbers.items ++ filter_map (λ p. position (point_eq p) l.self.points.keys) (map (outer_at l.side) (range_with_len l.index (67 - l.index)))
-    ≡ edge_numbers l.self.points.keys l.side
+    l.numbers.items ++ filter_map (λ p. position (point_eq p) l.self.points.items) (map (outer_at l.side) (range_with_len l.index (67 - l.index)))
+    ≡ edge_numbers l.self.points.items l.side
