@@ -1,5 +1,5 @@
 -- A data record: 8 bytes, the elevations, and the checksum of both.
-use Rattle.std.proofs.Common.{◌≡◌, ℕ, ◌+◌, ◌-◌, ◌*◌, ◌<◌, List, map, take, drop, slice_range, sum, refl, sym, ap, ap₂, ◌∙◌, arith, take-add, drop-drop}
+use Rattle.std.proofs.Common.{◌≡◌, ℕ, ◌+◌, ◌-◌, ◌*◌, ◌<◌, List, map, take, drop, slice_range, sum, sym, ap, ap₂, ◌∙◌, arith, take-add, drop-drop}
 use Rattle.std.specs.List.{range_with_len}
 use Rattle.std.proofs.lemmas.List.FromFn.{length-map-range_with_len, get_or-map-range_with_len, fill_by_all}
 use Rattle.std.proofs.lemmas.List.Sums.{sum_by-append}

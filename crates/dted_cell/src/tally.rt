@@ -24,8 +24,10 @@ use crate::counts::Counts;
 use crate::elevations::found_in;
 use terrain_base::Extremes;
 
-// The keys of 16000 metres below and above 0.
+// The key of 16000 metres below 0.
 const LOWEST_KEY: u16 = 16768;
+
+// The key of 16000 metres above 0.
 const HIGHEST_KEY: u16 = 48768;
 
 // What elevations hold.

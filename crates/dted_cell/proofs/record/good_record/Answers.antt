@@ -4,7 +4,7 @@ use Rattle.std.proofs.lemmas.List.FromFn.{length-map-range_with_len}
 use Rattle.std.proofs.lemmas.List.Sums.{count_by-le-length}
 use Rattle.dted_cell.specs.Field.{word_at, long_at}
 use Rattle.dted_cell.specs.Elevation.{IsElevation}
-use Rattle.dted_cell.specs.Record.{stated_sum, plain_sum}
+use Rattle.dted_cell.specs.Record.{stated_sum}
 use Rattle.dted_cell.specs.Cell.{is_void_post, widened, post_of_row}
 use Rattle.dted_cell.proofs.ByteSums.{slice_small}
 use Rattle.dted_cell.proofs.Records.{plain_sum_is, word_there, posts_there}
