@@ -1,12 +1,11 @@
 -- How many points there can be.
 use Rattle.std.proofs.Common.{◌≡◌, ℕ, zero, suc, Ok, Err, subst, ◌+◌, ◌*◌, ◌<◌, ◌≤◌, Bool, true, false, ◌&&◌, ◌||◌, List, [], ◌∷◌, map, ◌++◌, cond, length, nat_eq, eqb, refl, sym, arith}
 use Rattle.std.proofs.lemmas.Bool.Decides.{nat_tests}
-use Rattle.std.specs.Prelude.{slice_index_or, IfOk, OnErr}
-use Rattle.std.specs.declared.result.Result.{Result}
+use Rattle.std.specs.Prelude.{slice_index_or}
 use Rattle.std.specs.List.{list_any, IsDistinct, AllByRecursion}
 use Rattle.std.proofs.lemmas.Map.Steps.{length-le_from_distinct_below}
 use Rattle.tile_mesh.specs.declared.point.GridPoint.{GridPoint}
-use Rattle.tile_mesh.specs.Numbers.{point_eq, AreOnGrid, IsOnGrid, with_point}
+use Rattle.tile_mesh.specs.Numbers.{point_eq, AreOnGrid, IsOnGrid}
 
 code : GridPoint → ℕ
 code p = 67 * p.j + p.i
@@ -64,15 +63,6 @@ small_last p (k ∷ ks) s h q e = go (point_eq q k) refl e (small_last p ks s (r
     go : (a : Bool) → point_eq q k ≡ a → (a || list_any (point_eq q) (ks ++ p ∷ [])) ≡ true → (list_any (point_eq q) (ks ++ p ∷ []) ≡ true → (q.i ≤ 66) × (q.j ≤ 66)) → (q.i ≤ 66) × (q.j ≤ 66)
     go true f g r = let z = h k (first_found k ks) in same_small q.i q.j k.i k.j f z.0 z.1
     go false f g r = r g
-
-pub small_put : (p : GridPoint) (ks : List GridPoint) → IsOnGrid p → AreOnGrid ks → AreOnGrid (with_point ks p)
-small_put p ks s h = (elim (list_any (point_eq p) ks) as (λ b. AreOnGrid (cond b ks (ks ++ p ∷ []))) [ true ↦ h | false ↦ small_last p ks s h ])
-
--- the points after one was put, or not
-pub put_on_grid : {T E : Type 0} (r : Result T E) (p : GridPoint) (ks ks' : List GridPoint)
-    → IfOk r (λ _. ks' ≡ with_point ks p) → OnErr r (ks' ≡ ks) → IsOnGrid p → AreOnGrid ks → AreOnGrid ks'
-put_on_grid (Ok x) p ks ks' h k s a = subst (λ (qs : List GridPoint). AreOnGrid qs) (sym h) (small_put p ks s a)
-put_on_grid (Err e) p ks ks' h k s a = subst (λ (qs : List GridPoint). AreOnGrid qs) (sym k) a
 
 -- each of the points is on the grid
 pub on_grid_at : (ks : List GridPoint) → AreOnGrid ks → (k : ℕ) (d : GridPoint) → k < length ks → IsOnGrid (slice_index_or ks k d)

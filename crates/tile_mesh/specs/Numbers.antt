@@ -28,7 +28,7 @@ abbrev pub with_points : List GridPoint → List GridPoint → List GridPoint
 with_points points [] = points
 with_points points (p ∷ ps) = with_points (with_point points p) ps
 
--- a table by grid point, row by row from the south, of its place among the points
+-- a table of all grid points, row by row from the south, has the place of each among the points, or none
 abbrev pub ArePlaces : List (Option ℕ) → List GridPoint → Type 0
 ArePlaces places points =
     (p : GridPoint) → IsOnGrid p

@@ -9,10 +9,12 @@ use crate::point::GridPoint;
 use std::alloc::Global;
 use terrain_base::{Indexes, NoMemory};
 
-/// A mesh that grows, and the number of each grid point that has one: a look-up by place is faster than one by hash.
+/// A mesh that grows.
 #[derive(Drop)]
 pub(crate) struct Builder {
     pub(crate) points: Vec<GridPoint>,
+    // The number of each grid point that has one, by its place on the grid: each point is asked for some six
+    // times, and this is faster than a search by hash.
     numbers: Vec<Option<u16>>,
     pub(crate) triangles: Vec<Indexes>,
     ghost on_grid: { AreOnGrid points.items },
@@ -53,7 +55,7 @@ impl Builder {
         self.numbers[point.spot()]
     }
 
-    /// The number of a point.
+    /// The number of a point, which comes next if the point has none yet.
     fn number(&mut self, point: GridPoint) -> Result<u32, NoMemory>
         requires { IsOnGrid point }
         ensures number { IfOk result (λ n. n ≡ position_or_len (point_eq point) self.old.points.items) }
