@@ -47,7 +47,7 @@ fn equatorial_high(n: i64) -> i64
     -equatorial_low(-n)
 }
 
-// A number of the z axis in metres, scaled as if that axis were as long as the others, and rounded down.
+// A number of the z axis in units of 2^-18 m, scaled as if that axis were as long as the others, rounded down.
 //
 // That is n * 2^10 * (1 + FLAT / ROUND). Since n * 2^10 * FLAT does not fit 64 bits, the quotient of n * FLAT and
 // what is left are scaled by 2^10 apart.
