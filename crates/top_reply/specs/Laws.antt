@@ -1,0 +1,63 @@
+-- What courses and states are held to.
+use Rattle.std.specs.Prelude.{◌≡◌, List, [], ◌∷◌, Option, Some}
+use Rattle.terrain_base.specs.declared.params.Params.{Params}
+use Rattle.terrain_base.specs.Library.{LibraryFiles}
+use Rattle.terrain_base.specs.Step.{Files}
+use Rattle.top_words.specs.Words.{Command, DatabaseCommand}
+use Rattle.database.specs.State.{State, IsState, AreFiles, StandsFor}
+use Rattle.db_engine.specs.Holding.{no_cells}
+use Rattle.top_reply.specs.declared.status.Status.TheVariants.{Done}
+use Rattle.top_reply.specs.Course.{Course}
+use Rattle.top_reply.specs.Good.{IsGoodDatabase}
+use Rattle.top_reply.specs.Passed.{Reaches}
+use Rattle.top_reply.specs.Run.{Arrives, HoldsFilesOf}
+use Rattle.top_reply.specs.Top.{IsCourseOf, Tells, IsOpenedAs, IsCourse, touches_store, reads_file}
+use Rattle.top_reply.specs.Valid.{IsValid}
+
+-- a command has one course
+abbrev pub OneCourse : Type 0
+OneCourse = (meaning : Option Command) (held : Option Files) (library : Option LibraryFiles) (a b : Course)
+    → IsCourseOf meaning held library a → IsCourseOf meaning held library b → a ≡ b
+
+-- it reaches one state
+abbrev pub OneState : Type 0
+OneState = (command : DatabaseCommand) (library : LibraryFiles) (s a b : State)
+    → Reaches command library s a → Reaches command library s b → a ≡ b
+
+-- the files of a state are a good database
+abbrev pub FilesAreGood : Type 0
+FilesAreGood = (s : State) (files : Files) → IsState s → AreFiles files s → IsGoodDatabase s files
+
+-- the course of a valid call is done
+abbrev pub ValidIsDone : Type 0
+ValidIsDone = (command : Command) (held : Option Files) (library : Option LibraryFiles) (course : Course)
+    → (is : IsCourseOf (Some command) held library course) → IsValid command is.files is.books
+    → course.status ≡ Done
+
+-- ---- any number of runs
+
+-- a command, and what the library held when it was run
+pub record Ordered : Type 0 where
+  pub command : DatabaseCommand
+  pub library : LibraryFiles
+
+-- each run was answered: whatever state the files stood for, they are those of the state that it reaches
+abbrev pub AllArrive : List Ordered → Files → Files → Type 0
+AllArrive [] files files' = files' ≡ files
+AllArrive (run ∷ runs) files files' = (mid : Files)
+    × ((s : State) → StandsFor files s → Arrives run.command run.library s (Some mid)) × AllArrive runs mid files'
+
+abbrev pub ReachesAll : List Ordered → State → State → Type 0
+ReachesAll [] s t = t ≡ s
+ReachesAll (run ∷ runs) s t = (mid : State) × Reaches run.command run.library s mid × ReachesAll runs mid t
+
+-- the state that runs reach, whose files are held
+pub record AllArrived (runs : List Ordered) (s : State) (files : Files) : Type 0 where
+  pub state : State
+  pub reached : ReachesAll runs s state
+  pub holds : HoldsFilesOf (Some files) state
+
+-- from a beginning on, after any number of answered runs, the files are those of the state after all accepted commands
+abbrev pub RunsChain : Type 0
+RunsChain = (runs : List Ordered) (params : Params) (files files' : Files)
+    → AreFiles files (no_cells params) → AllArrive runs files files' → AllArrived runs (no_cells params) files'

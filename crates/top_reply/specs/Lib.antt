@@ -1,0 +1,17 @@
+pub mod Audit
+pub mod Cell
+pub mod Course
+pub mod Database
+pub mod Edits
+pub mod File
+pub mod Good
+pub mod Laws
+pub mod Lines
+pub mod Passed
+pub mod Query
+pub mod Reply
+pub mod Run
+pub mod Status
+pub mod Top
+pub mod Trial
+pub mod Valid

@@ -1,0 +1,30 @@
+//! What courses and states are held to. Each function does nothing, or calls the laws that it rests on: its contract is a
+//! law.
+ghost use Rattle.top_reply.specs.Laws.{FilesAreGood, OneCourse, OneState, RunsChain, ValidIsDone};
+
+/// A command has one course.
+pub fn one_course()
+    ensures { OneCourse }
+{}
+
+/// A command on a database reaches one state.
+pub fn one_state()
+    ensures { OneState }
+{}
+
+/// The files of a state are a good database: each tile that exists decodes to triangles that cover it once, keep the
+/// level's tolerance at the grid points and the printed bound at the posts, with a sphere that reaches every vertex's
+/// box; and each two tiles side by side are equal along the edge that they share.
+pub fn files_are_good()
+    ensures { FilesAreGood }
+{}
+
+/// The course of a valid call is done.
+pub fn valid_is_done()
+    ensures { ValidIsDone }
+{}
+
+/// From a beginning on, after any number of answered runs, the files are those of the state after all accepted commands.
+pub fn runs_chain()
+    ensures { RunsChain }
+{}
