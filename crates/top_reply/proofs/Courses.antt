@@ -22,7 +22,7 @@ text_append (x ∷ xs) ys =
     ap (λ zs. x.text ++ zs) (text_append xs ys) ∙ sym (append_assoc x.text (text_of xs) (text_of ys))
 
 pub tiles_append : (xs ys : List Turn) → tiles_of (xs ++ ys) ≡ tiles_of xs + tiles_of ys
-tiles_append [] ys = refl
+tiles_append [] ys = omega arith
 tiles_append (x ∷ xs) ys = let rest = tiles_append xs ys in omega (arith, rest)
 
 -- ---- texts, one after another
