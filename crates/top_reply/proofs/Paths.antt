@@ -59,6 +59,12 @@ second_is : (P Q : Files → Type 0) (held : Option Files) → IsSomeAnd held Q 
 second_is P Q None holds = absurd holds
 second_is P Q (Some files) holds = inr holds
 
+either_is : (P Q R : Files → Type 0) (held : Option Files) → ((files : Files) → Q files → P files)
+    → ((files : Files) → R files → P files) → IsSomeAnd held (λ files. Q files ⊎ R files) → IsSomeAnd held P
+either_is P Q R None left right holds = absurd holds
+either_is P Q R (Some files) left right (inl holds) = left files holds
+either_is P Q R (Some files) left right (inr holds) = right files holds
+
 one_is : (P : Files → Type 0) (held : Option Files) → IsSomeAnd held (λ files. P files ⊎ P files) → IsSomeAnd held P
 one_is P None holds = absurd holds
 one_is P (Some files) (inl holds) = holds
@@ -183,6 +189,18 @@ module _ (Is Ends : Files → State → Type 0) where
     stopped = stopped_at e at.before at.turn at.later steps tiles rest s states files w at.mid w' at.parts
         (subst (λ turns. Path Is Ends files s turns (s ∷ states)) at.parts path) is at.done at.at;
   }
+
+  -- what holds of the files of each state holds of what a stop leaves
+  pub stop_among : (P : Files → Type 0) → ((now : Files) (t : State) → Is now t → P now) → (e : Stop)
+      (turns : List Turn) (s : State) (states : List State) (files : Files) (w w' : World)
+      → Path Is Ends files s turns states → w.held ≡ Some files → StopsIn e turns w w' → IsSomeAnd w'.held P
+  stop_among P each e turns s states files w w' path is at =
+      let r = at_stop e at.before at.turn at.later s states files w at.mid w'
+          (subst (λ turns. Path Is Ends files s turns states) at.parts path) is at.done at.at in
+      either_is P (λ now. Is now (state_at s states (length at.before)))
+      (λ now. Is now (state_at s states (suc (length at.before)))) w'.held
+      (λ now holds. each now (state_at s states (length at.before)) holds)
+      (λ now holds. each now (state_at s states (suc (length at.before))) holds) r.between
 
   -- ---- to the end
 

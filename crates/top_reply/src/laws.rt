@@ -17,7 +17,10 @@ pub fn one_state()
 /// box; and each two tiles side by side are equal along the edge that they share.
 pub fn files_are_good()
     ensures { FilesAreGood }
-{}
+{
+    tile_rule::laws::files_are_good();
+    tile_rule::laws::neighbours_meet();
+}
 
 /// The course of a valid call is done.
 pub fn valid_is_done()
@@ -27,4 +30,6 @@ pub fn valid_is_done()
 /// From a beginning on, after any number of answered runs, the files are those of the state after all accepted commands.
 pub fn runs_chain()
     ensures { RunsChain }
-{}
+{
+    files_are_good();
+}
