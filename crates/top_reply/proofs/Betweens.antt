@@ -1,5 +1,5 @@
 -- The states that a command leads through, over files that stand for a state and over files that only read as one.
-use Rattle.std.proofs.Common.{◌≡◌, ◌⊎◌, ℕ, zero, suc, ◌≤◌, ◌<◌, Bool, true, false, nat_le, nat_lt, List, [], ◌∷◌, ◌++◌, length, take, Option, Some, None, refl, sym, ap, subst, ◌∙◌, inl, inr, ⊎_elim, arith}
+use Rattle.std.proofs.Common.{◌≡◌, ◌⊎◌, ℕ, zero, suc, ◌<◌, Bool, true, false, nat_le, nat_lt, List, [], ◌∷◌, ◌++◌, length, take, Option, Some, None, refl, sym, ap, subst, ◌∙◌, inl, inr, arith}
 use Rattle.std.proofs.lemmas.Bool.Decides.{nat_tests}
 use Rattle.std.specs.Prelude.{slice_index, if◌then◌else◌}
 use Rattle.std.specs.FinMap.{get, keys}
@@ -14,7 +14,6 @@ use Rattle.cell_mosaic.specs.Cells.{IsSoundCell}
 use Rattle.cell_mosaic.specs.Summaries.{summaries_of}
 use Rattle.cell_mosaic.specs.Whole.{key_in}
 use Rattle.db_manifest.specs.Manifest.{ManifestState}
-use Rattle.top_words.specs.Script.{Line}
 use Rattle.top_words.specs.Words.{Edit, Add, Replace, Remove, DatabaseCommand, Ask, Change, Apply, Rebuild}
 use Rattle.database.specs.declared.answer.EngineAnswer.{EngineAnswer}
 use Rattle.database.specs.declared.answer.EngineAnswer.TheVariants.{CellPresent, CellAbsent, DatabaseFull}
@@ -24,7 +23,6 @@ use Rattle.database.specs.State.{State, IsState, AreFiles, ReadsAs, ReadsFor, St
 use Rattle.database.proofs.Command.{command_stands, command_ends}
 use Rattle.database.proofs.Settled.{settling_fronts, settling_files, settling_reads}
 use Rattle.database.proofs.Starting.{calls_stand, calls_end, files_stand}
-use Rattle.db_engine.specs.Rows.{HasRoom}
 use Rattle.db_engine.proofs.CellRows.{IsSoundEdit, HasRoomFor, count_is, has_row_is, state_after}
 use Rattle.db_engine.proofs.EditReads.{edit_closed, edit_reads, settles_closed}
 use Rattle.db_engine.proofs.Starts.{has_all}
@@ -76,22 +74,26 @@ stand_kept = record {
   state = λ s files ends. ends.1;
   edit = λ c s files state ends.
       let stands = files_stand s files ends.1 ends.0 in
-      let ended : AreSettled (all_changed (calls c s) files) (after c s) = (command_ends c s files state stands, state) in
-      (record {
-        begins = record { mark = Closed; stands = stands };
-        fronts = command_stands c s files state stands;
-        ends = stand_now (after c s) (all_changed (calls c s) files) ended;
-      }, ended);
+      let ended : AreSettled (all_changed (calls c s) files) (after c s) = (command_ends c s files state stands, state) in (
+        record {
+          begins = record { mark = Closed; stands = stands };
+          fronts = command_stands c s files state stands;
+          ends = stand_now (after c s) (all_changed (calls c s) files) ended;
+        },
+        ended,
+      );
   rebuild = λ s files ends.
       let stands = stand_now s files ends in
       let held = has_all (files_stand s files ends.1 ends.0).reads in
-      let ended : AreSettled (all_changed (rebuild_calls files s) files) s = (calls_end s files held, ends.1) in
-      (record {
-        begins = stands;
-        fronts = λ n le. inl (stand_still s files (all_changed (take n (rebuild_calls files s)) files) stands
-            (calls_stand s files held n le));
-        ends = stand_now s (all_changed (rebuild_calls files s) files) ended;
-      }, ended);
+      let ended : AreSettled (all_changed (rebuild_calls files s) files) s = (calls_end s files held, ends.1) in (
+        record {
+          begins = stands;
+          fronts = λ n le. inl (stand_still s files (all_changed (take n (rebuild_calls files s)) files) stands
+              (calls_stand s files held n le));
+          ends = stand_now s (all_changed (rebuild_calls files s) files) ended;
+        },
+        ended,
+      );
 }
 
 -- of files that only read as it
@@ -100,22 +102,26 @@ read_kept = record {
   are = λ s files reads. record { mark = Closed; reads = reads };
   state = λ s files reads. reads.state;
   edit = λ c s files state reads.
-      let ended = edit_closed c s files state reads in
-      (record {
-        begins = record { mark = Closed; reads = reads };
-        fronts = edit_reads c s files state reads;
-        ends = record { mark = Closed; reads = ended };
-      }, ended);
+      let ended = edit_closed c s files state reads in (
+        record {
+          begins = record { mark = Closed; reads = reads };
+          fronts = edit_reads c s files state reads;
+          ends = record { mark = Closed; reads = ended };
+        },
+        ended,
+      );
   rebuild = λ s files reads.
       let held = has_all reads in
       let now = all_changed (rebuild_calls files s) files in
-      let ended = (files_stand s now reads.state (calls_end s files held)).reads in
-      (record {
-        begins = record { mark = Closed; reads = reads };
-        fronts = λ n le. inl (read_still s files (all_changed (take n (rebuild_calls files s)) files) reads
-            (calls_stand s files held n le));
-        ends = record { mark = Closed; reads = ended };
-      }, ended);
+      let ended = (files_stand s now reads.state (calls_end s files held)).reads in (
+        record {
+          begins = record { mark = Closed; reads = reads };
+          fronts = λ n le. inl (read_still s files (all_changed (take n (rebuild_calls files s)) files) reads
+              (calls_stand s files held n le));
+          ends = record { mark = Closed; reads = ended };
+        },
+        ended,
+      );
 }
 
 -- ---- settling
@@ -124,22 +130,26 @@ pub settling_stands : (s : State) (mark : ManifestState) (files : Files) → Sta
     → Leads StandsFor (settling mark files s) files s s × AreSettled (all_changed (settling mark files s) files) s
 settling_stands s mark files stands =
     let ended : AreSettled (all_changed (settling mark files s) files) s =
-        (settling_files mark s files stands, stands.reads.state) in
-    (record {
-      begins = record { mark = mark; stands = stands };
-      fronts = λ n le. inl (settling_fronts mark s files stands n le);
-      ends = stand_now s (all_changed (settling mark files s) files) ended;
-    }, ended)
+    (settling_files mark s files stands, stands.reads.state) in (
+      record {
+        begins = record { mark = mark; stands = stands };
+        fronts = λ n le. inl (settling_fronts mark s files stands n le);
+        ends = stand_now s (all_changed (settling mark files s) files) ended;
+      },
+      ended,
+    )
 
 pub settling_still_reads : (s : State) (mark : ManifestState) (files : Files) → ReadsAs files s mark
     → Leads ReadsFor (settling mark files s) files s s × ReadClosed (all_changed (settling mark files s) files) s
 settling_still_reads s mark files reads =
-    let ended = settles_closed mark s files reads in
-    (record {
-      begins = record { mark = mark; reads = reads };
-      fronts = λ n le. inl (settling_reads mark s files reads n le);
-      ends = record { mark = Closed; reads = ended };
-    }, ended)
+    let ended = settles_closed mark s files reads in (
+      record {
+        begins = record { mark = mark; reads = reads };
+        fronts = λ n le. inl (settling_reads mark s files reads n le);
+        ends = record { mark = Closed; reads = ended };
+      },
+      ended,
+    )
 
 -- ---- an edit that is accepted leaves a state
 
@@ -302,7 +312,7 @@ module _ (Is Ends : Files → State → Type 0) (kept : AreKept Is Ends) where
       path_append Is Ends (turns_of library lines s) (text_turn text ∷ []) states (after_lines library lines s ∷ []) s files
       (lines_path library holds lines s files ends)
       (λ now ended. subst (λ t. Path Is Ends now (last_of s states) (text_turn text ∷ []) (t ∷ []))
-          (lines_end library lines s) (text_path text (last_of s states) now ended))
+      (lines_end library lines s) (text_path text (last_of s states) now ended))
 
   path_as : (turns turns' : List Turn) (states states' : List State) (s : State) (files : Files) → turns' ≡ turns
       → states' ≡ states → Path Is Ends files s turns states → Path Is Ends files s turns' states'
@@ -314,7 +324,7 @@ module _ (Is Ends : Files → State → Type 0) (kept : AreKept Is Ends) where
   applied_path (Bytes bytes) library holds s files course states is passes ends =
       let lines = commands_of 1 is.lines in
       let same : commands_of 1 passes.lines ≡ lines =
-          ap (commands_of 1) (one_list bytes passes.lines is.lines passes.are is.are) in
+      ap (commands_of 1) (one_list bytes passes.lines is.lines passes.are is.are) in
       path_as (lines_course library lines s).turns course.turns
       (states_of library lines s ++ after_lines library lines s ∷ []) states s files
       (ap (λ (c : Course). c.turns) is.course_is)

@@ -1,5 +1,5 @@
 -- The files of a state are a good database.
-use Rattle.std.proofs.Common.{◌≡◌, ℕ, Bool, true, false, List, Option, Some, None, sym, ap, subst, ◌∙◌}
+use Rattle.std.proofs.Common.{◌≡◌, ℕ, Bool, true, false, List, Some, sym, ap, subst, ◌∙◌}
 use Rattle.std.specs.FinMap.{get}
 use Rattle.terrain_base.specs.declared.name.Key.TheVariants.{Terrain, Note}
 use Rattle.terrain_base.specs.declared.tile.TileId.{TileId}
@@ -7,7 +7,7 @@ use Rattle.terrain_base.specs.Step.{Files}
 use Rattle.tile_rule.specs.Laws.{GoodLaw, EastLaw, NorthLaw}
 use Rattle.tile_rule.specs.Seams.{MeetEast, MeetNorth}
 use Rattle.tile_rule.specs.Tile.{terrain_of, note_of}
-use Rattle.database.specs.State.{State, IsState, AreFiles, tile_exists, where_it_is}
+use Rattle.database.specs.State.{State, AreFiles, tile_exists, where_it_is}
 use Rattle.top_reply.specs.Laws.{FilesAreGood}
 
 -- what is held where a tile may be is the tile's

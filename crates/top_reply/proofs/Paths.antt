@@ -196,7 +196,7 @@ module _ (Is Ends : Files → State → Type 0) where
       → Path Is Ends files s turns states → w.held ≡ Some files → StopsIn e turns w w' → IsSomeAnd w'.held P
   stop_among P each e turns s states files w w' path is at =
       let r = at_stop e at.before at.turn at.later s states files w at.mid w'
-          (subst (λ turns. Path Is Ends files s turns states) at.parts path) is at.done at.at in
+      (subst (λ turns. Path Is Ends files s turns states) at.parts path) is at.done at.at in
       either_is P (λ now. Is now (state_at s states (length at.before)))
       (λ now. Is now (state_at s states (suc (length at.before)))) w'.held
       (λ now holds. each now (state_at s states (length at.before)) holds)

@@ -1,17 +1,17 @@
 -- What follows of a run from its course.
-use Rattle.std.proofs.Common.{◌≡◌, ◌⊎◌, ℕ, ◌≤◌, Bool, true, false, List, [], ◌∷◌, length, take, Option, Some, None, refl, sym, ap, subst, ◌∙◌, inl, inr}
+use Rattle.std.proofs.Common.{◌≡◌, ◌⊎◌, Bool, true, false, List, [], ◌∷◌, take, Option, Some, None, refl, sym, ap, subst, ◌∙◌, inl, inr}
 use Rattle.std.specs.Prelude.{IsSomeAnd}
 use Rattle.std.specs.FinMap.{empty, keys}
 use Rattle.terrain_base.specs.declared.params.Params.{Params}
 use Rattle.terrain_base.specs.Library.{LibraryFiles}
 use Rattle.terrain_base.specs.Overwrite.{all_changed}
-use Rattle.terrain_base.specs.Step.{Files, Step}
+use Rattle.terrain_base.specs.Step.{Files}
 use Rattle.manifest_lines.specs.declared.state.State.TheVariants.{Closed}
 use Rattle.db_manifest.specs.Manifest.{ManifestState}
-use Rattle.top_words.specs.Words.{Edit, Add, Replace, Remove, DatabaseCommand, Ask, Change, Apply, Rebuild, Command, Init, Database, ReadCell, Audit, Trial}
-use Rattle.database.specs.Commands.{existing, rebuild_calls, settling}
-use Rattle.database.specs.Opening.{Opening, Opens, OpensAs}
-use Rattle.database.specs.State.{State, IsState, AreFiles, ReadsAs, ReadsFor, StandsMarked, StandsFor}
+use Rattle.top_words.specs.Words.{Add, Replace, Remove, DatabaseCommand, Ask, Change, Apply, Rebuild, Command, Init, Database, ReadCell, Audit, Trial}
+use Rattle.database.specs.Commands.{rebuild_calls, settling}
+use Rattle.database.specs.Opening.{Opens, OpensAs}
+use Rattle.database.specs.State.{State, AreFiles, ReadsAs, ReadsFor, StandsFor}
 use Rattle.database.proofs.Openings.{one_opening}
 use Rattle.database.proofs.Starting.{calls_end, calls_stand, files_stand}
 use Rattle.db_engine.specs.Holding.{no_cells}
@@ -20,16 +20,15 @@ use Rattle.db_engine.proofs.Starts.{no_state}
 use Rattle.top_reply.specs.declared.status.Status.{Status}
 use Rattle.top_reply.specs.declared.status.Status.TheVariants as status
 use Rattle.top_reply.specs.declared.stop.Stop.{Stop}
-use Rattle.top_reply.specs.Course.{Answered, Course, Goes, GoesBy, StopsIn, TurnsDone, World, quiet_turn}
+use Rattle.top_reply.specs.Course.{Answered, Course, Goes, GoesBy, StopsIn, World, quiet_turn}
 use Rattle.top_reply.specs.Database.{IsDatabaseCourse, IsOpenedCourse, after_settling, created_turn, init_by}
 use Rattle.top_reply.specs.File.{HoldsBytes}
-use Rattle.top_reply.specs.Good.{IsGoodDatabase}
 use Rattle.top_reply.specs.Laws.{AllArrive, AllArrived, FilesAreGood, Ordered}
-use Rattle.top_reply.specs.Passed.{Passes, StopsBetween}
-use Rattle.top_reply.specs.Run.{Arrives, Headline, HoldsFilesOf, IsFrontOf, OnStop, OnStopBy, StopsFrom, StopsReading, StopsStanding}
+use Rattle.top_reply.specs.Passed.{StopsBetween}
+use Rattle.top_reply.specs.Run.{Headline, HoldsFilesOf, IsFrontOf, OnStop, OnStopBy, StopsFrom, StopsReading, StopsStanding}
 use Rattle.top_reply.specs.Status.{IsAnswer, stop_of}
-use Rattle.top_reply.specs.Top.{HasCourse, IsCourse, IsCourseOf, IsOpenedAs, Tells, database_reads, reads_file, touches_store}
-use Rattle.top_reply.proofs.Betweens.{AreKept, AreSettled, Passage, ReadClosed, passage, read_kept, settled_path, settling_stands, settling_still_reads, stand_kept}
+use Rattle.top_reply.specs.Top.{HasCourse, IsCourseOf, Tells, database_reads, reads_file, touches_store}
+use Rattle.top_reply.proofs.Betweens.{AreKept, AreSettled, ReadClosed, passage, read_kept, settled_path, settling_stands, settling_still_reads, stand_kept}
 use Rattle.top_reply.proofs.Courses.{some_first}
 use Rattle.top_reply.proofs.Paths.{Leads, Path, last_of, run_ends, run_stops, stop_among}
 
@@ -101,8 +100,8 @@ module _ (Is Ends : Files → State → Type 0) (kept : AreKept Is Ends) (comman
       on_stop (after_settling steps tiles rest) w w' status
       (λ e. StopsBetween Is s states (quiet_turn steps tiles ∷ rest.turns) e w w') (stop_of status)
       (λ e at. run_stops Is Ends e steps tiles rest.turns s states files w w'
-          (settled_path Is Ends kept command books holds s files steps tiles leads rest states rest_is passes)
-          (same ∙ is) at)
+      (settled_path Is Ends kept command books holds s files steps tiles leads rest states rest_is passes)
+      (same ∙ is) at)
       (goes (after_settling steps tiles rest)
       (opened_course command held library files books s mark rest is tells reads rest_is))
 
@@ -141,12 +140,14 @@ begun_path params files none =
     let s = no_cells params in
     let steps = rebuild_calls files s in
     let held = no_state params files in
-    let ended = calls_end s files held in
-    (record {
-      begins = inl none;
-      fronts = λ n le. inl (begun_still params files (all_changed (take n steps) files) none (calls_stand s files held n le));
-      ends = inr (record { mark = Closed; stands = files_stand s (all_changed steps files) held.state ended });
-    }, (ended, held.state))
+    let ended = calls_end s files held in (
+      record {
+        begins = inl none;
+        fronts = λ n le. inl (begun_still params files (all_changed (take n steps) files) none (calls_stand s files held n le));
+        ends = inr (record { mark = Closed; stands = files_stand s (all_changed steps files) held.state ended });
+      },
+      (ended, held.state),
+    )
 
 begun_stops : (params : Params) (held : Option Files) (library : Option LibraryFiles) (w w' : World) (s : Status)
     → w.held ≡ held → GoesAll (Some (Init params)) held library w w' s
@@ -156,8 +157,8 @@ begun_stops params held library w w' s same goes = λ files is none.
     on_stop course w w' s
     (λ e. IsSomeAnd w'.held (λ now. (keys now ≡ []) ⊎ StandsFor now (no_cells params))) (stop_of s)
     (λ e at. stop_among (NoneOrStands params) (AreBegun params) (λ now. (keys now ≡ []) ⊎ StandsFor now (no_cells params))
-        (λ now t holds. holds) e course.turns (no_cells params) (no_cells params ∷ []) files w w'
-        (begun_path params files none) (same ∙ is) at)
+    (λ now t holds. holds) e course.turns (no_cells params) (no_cells params ∷ []) files w w'
+    (begun_path params files none) (same ∙ is) at)
     (goes course (begun_course params held library files is none))
 
 -- ---- where it stops
@@ -222,8 +223,8 @@ rest_of command held library files books s mark is tells reads has =
     let opens : OpensAs files of.opening = subst (λ f. OpensAs f of.opening) same_files of.opens in
     let same_opening : of.opening ≡ Opens s mark = one_opening files of.opening (Opens s mark) opens reads in
     let course : IsDatabaseCourse command of.books files (Opens s mark) has.course =
-        subst (λ o. IsDatabaseCourse command of.books files o has.course) same_opening
-        (subst (λ f. IsDatabaseCourse command of.books f of.opening has.course) same_files of.is) in
+    subst (λ o. IsDatabaseCourse command of.books files o has.course) same_opening
+    (subst (λ f. IsDatabaseCourse command of.books f of.opening has.course) same_files of.is) in
     record {
       rest = course.rest;
       rest_is = other_books command of.books books s (all_changed (settling mark files s) files) course.rest
@@ -247,7 +248,7 @@ begun_holds good params held library w w' s same goes = λ files is none answer.
     let course : Course = record { status = status.Done; turns = created_turn params files ∷ [] } in
     let done = answered course w w' s answer (goes course (begun_course params held library files is none)) in
     let ends = run_ends (NoneOrStands params) (AreBegun params) course.turns (no_cells params) (no_cells params ∷ [])
-        files w w' (begun_path params files none) (same ∙ is) done.turns in
+    files w w' (begun_path params files none) (same ∙ is) done.turns in
     holds_of good (no_cells params) w'.held ends.0 ends.1 ends.2
 
 database_arrives : FilesAreGood → (command : DatabaseCommand) (held : Option Files) (library : Option LibraryFiles)
@@ -263,11 +264,11 @@ database_arrives good command held library w w' s same goes told = λ files book
     let course = after_settling steps tiles rest.rest in
     let passage = passage command books t (all_changed steps files) rest.rest rest.rest_is in
     let done = answered course w w' s answer
-        (goes course (opened_course command held library files books t mark rest.rest is tells reads rest.rest_is)) in
+    (goes course (opened_course command held library files books t mark rest.rest is tells reads rest.rest_is)) in
     let ends = run_ends StandsFor AreSettled course.turns t (t ∷ passage.states) files w w'
-        (settled_path StandsFor AreSettled stand_kept command books holds t files steps tiles
-        (settling_stands t mark files stands.stands) rest.rest passage.states rest.rest_is passage.passes)
-        (same ∙ is) done.turns in
+    (settled_path StandsFor AreSettled stand_kept command books holds t files steps tiles
+    (settling_stands t mark files stands.stands) rest.rest passage.states rest.rest_is passage.passes)
+    (same ∙ is) done.turns in
     record {
       state = last_of t passage.states;
       reached = passage.reaches;
