@@ -1,1 +1,4 @@
 pub mod Courses
+pub mod OneLines
+pub mod OneCourse
+pub mod Valid
