@@ -1,5 +1,5 @@
 -- A command on files that open has a course, and passes states.
-use Rattle.std.proofs.Common.{◌≡◌, ℕ, ℤ, Bool, true, false, List, [], ◌∷◌, ◌++◌, Option, Some, None, refl}
+use Rattle.std.proofs.Common.{ℕ, Bool, true, false, List, Option, Some, None, refl}
 use Rattle.std.specs.FinMap.{get}
 use Rattle.terrain_base.specs.declared.name.Key.TheVariants.{Terrain, Note}
 use Rattle.terrain_base.specs.declared.tile.TileId.{TileId}
@@ -9,16 +9,15 @@ use Rattle.terrain_base.specs.Step.{Files}
 use Rattle.mesh_codec.specs.Tile.{header_in}
 use Rattle.top_words.specs.declared.command.Query.{Query}
 use Rattle.top_words.specs.declared.command.Query.TheVariants.{List as ListCells, Inspect, Deps}
-use Rattle.top_words.specs.Words.{DatabaseCommand, Ask, Change, Apply, Rebuild, Database}
+use Rattle.top_words.specs.Words.{DatabaseCommand, Ask, Change, Apply, Rebuild}
 use Rattle.database.specs.Commands.{settling}
-use Rattle.database.specs.Opening.{Opening, Opens, OldVersion, NotADatabase, InTrouble, OpensAs}
+use Rattle.database.specs.Opening.{Opening, Opens, OldVersion, NotADatabase, InTrouble}
 use Rattle.database.specs.State.{State, tile_exists}
-use Rattle.db_report.specs.Tile.{IsHeightWord}
 use Rattle.top_reply.specs.Course.{Course, said}
 use Rattle.top_reply.specs.Database.{IsApplied, IsDatabaseCourse, IsOpenedCourse, after_settling}
 use Rattle.top_reply.specs.File.{Found, Bytes, NoFile, found_in, script_limit}
 use Rattle.top_reply.specs.Laws.{EachHasCourse, EachPasses}
-use Rattle.top_reply.specs.Passed.{PassesBy, Passes}
+use Rattle.top_reply.specs.Passed.{PassesBy}
 use Rattle.top_reply.specs.Query.{IsInspected, IsReplyTo, IsShownBy, shown_reply}
 use Rattle.top_reply.specs.Reply.{Reply}
 use Rattle.top_reply.specs.Top.{Tells, database_reads}
@@ -32,14 +31,16 @@ has_shown tile None _ = (_, refl)
 has_shown tile (Some terrain) None = (_, refl)
 has_shown tile (Some terrain) (Some note) =
     let least = has_height (header_in terrain).least in
-    let greatest = has_height (header_in terrain).greatest in
-    (shown_reply tile terrain note least.0 greatest.0, record {
-      least = least.0;
-      greatest = greatest.0;
-      least_is = least.1;
-      greatest_is = greatest.1;
-      reply_is = refl;
-    })
+    let greatest = has_height (header_in terrain).greatest in (
+      shown_reply tile terrain note least.0 greatest.0,
+      record {
+        least = least.0;
+        greatest = greatest.0;
+        least_is = least.1;
+        greatest_is = greatest.1;
+        reply_is = refl;
+      },
+    )
 
 has_inspected : (exists : Bool) (tile : TileId) (files : Files) → (reply : Reply) × IsInspected exists tile files reply
 has_inspected false tile files = (_, refl)

@@ -83,11 +83,13 @@ file_line line word = by_rest (behind word line)
     by_text first file same (inl text) = inl (first ∷ file, record { same = same; some = omega arith; text = text })
     by_text first file same (inr none) = inr (λ other is.
         none (subst IsUtf8 (append_cancel_left word other (first ∷ file) (sym is.same ∙ same)) is.text))
+
     by_file : (file : List ℕ) → line ≡ word ++ file → SomeOrNone (List ℕ) (λ file. IsFileLine line word file)
     by_file [] same = inr (λ other is.
         let none = ap length (append_cancel_left word other [] (sym is.same ∙ same)) in
         let some = is.some in omega (arith, none, some))
     by_file (first ∷ file) same = by_text first file same (utf8_or_not (first ∷ file))
+
     by_rest : SomeOrNone (List ℕ) (λ file. line ≡ word ++ file) → SomeOrNone (List ℕ) (λ file. IsFileLine line word file)
     by_rest (inl rest) = by_file rest.0 rest.1
     by_rest (inr none) = inr (λ file is. none file is.same)
@@ -130,15 +132,18 @@ key_line text = turned (below (InRow text) (in_row text) 180)
   where
     turned : ((lat : ℕ) × (lat < 180) × InRow text lat) ⊎ ((lat : ℕ) → lat < 180 → InRow text lat → ⊥)
         → SomeOrNone CellKey (λ key. text ≡ row_text key)
-    turned (inl found) = inl (record {
-      square = record {
-        lat = found.0;
-        lon = found.2.0;
-        lat_in_range = found.1;
-        lon_in_range = found.2.1;
-      };
-      level = found.2.2.0;
-    }, found.2.2.1)
+    turned (inl found) = inl (
+      record {
+        square = record {
+          lat = found.0;
+          lon = found.2.0;
+          lat_in_range = found.1;
+          lon_in_range = found.2.1;
+        };
+        level = found.2.2.0;
+      },
+      found.2.2.1,
+    )
     turned (inr none) = inr (λ key is.
         none key.square.lat key.square.lat_in_range (key.square.lon, key.square.lon_in_range, (key.level, is)))
 
@@ -150,6 +155,7 @@ remove_line line = by_rest (behind (codes "remove ") line)
     by_key rest same (inl found) = inl (found.0, same ∙ ap (λ text. codes "remove " ++ text) found.1)
     by_key rest same (inr none) = inr (λ key is.
         none key (append_cancel_left (codes "remove ") rest (row_text key) (sym same ∙ is)))
+
     by_rest : SomeOrNone (List ℕ) (λ rest. line ≡ codes "remove " ++ rest)
         → SomeOrNone CellKey (λ key. line ≡ codes "remove " ++ row_text key)
     by_rest (inl rest) = by_key rest.0 rest.1 (key_line rest.0)

@@ -1,19 +1,17 @@
 -- A command has one course, and reaches one state.
 use Rattle.std.proofs.Common.{◌≡◌, ℕ, ℤ, Bool, true, false, List, [], ◌∷◌, decimal, codes, Option, Some, None, refl, sym, ap, subst, ◌∙◌}
-use Rattle.std.specs.FinMap.{get, keys, same_map}
+use Rattle.std.specs.FinMap.{get, same_map}
 use Rattle.float_bits.proofs.Formats.{one_number32}
 use Rattle.terrain_base.specs.declared.name.Key.TheVariants.{Terrain, Note}
 use Rattle.terrain_base.specs.declared.tile.TileId.{TileId}
 use Rattle.terrain_base.specs.Library.{LibraryFiles}
-use Rattle.terrain_base.specs.Overwrite.{all_changed}
-use Rattle.terrain_base.specs.Step.{Files, Step}
+use Rattle.terrain_base.specs.Step.{Files}
 use Rattle.terrain_base.proofs.NameOrder.{by_text_total, by_text_exact}
 use Rattle.mesh_codec.specs.Tile.{header_in}
 use Rattle.report_text.specs.Words.{joined}
 use Rattle.top_words.specs.declared.command.Query.{Query}
 use Rattle.top_words.specs.declared.command.Query.TheVariants.{List as ListCells, Inspect, Deps}
-use Rattle.top_words.specs.Script.{Line}
-use Rattle.top_words.specs.Words.{Edit, Add, Replace, Remove, DatabaseCommand, Ask, Change, Apply, Rebuild, Command, Init, Database, ReadCell, Audit, Trial}
+use Rattle.top_words.specs.Words.{Add, Replace, Remove, DatabaseCommand, Ask, Change, Apply, Rebuild, Command, Init, Database, ReadCell, Audit, Trial}
 use Rattle.database.specs.Opening.{Opening, Opens, OldVersion, NotADatabase, InTrouble, OpensAs}
 use Rattle.database.specs.State.{State, AreFiles, tile_exists}
 use Rattle.database.proofs.Openings.{one_opening}
@@ -26,7 +24,7 @@ use Rattle.top_reply.specs.Edits.{edit_course, edit_reply}
 use Rattle.top_reply.specs.File.{Found, Bytes, NoFile, found_in, script_limit}
 use Rattle.top_reply.specs.Laws.{OneCourse, OneState}
 use Rattle.top_reply.specs.Lines.{after_lines, commands_of, lines_course}
-use Rattle.top_reply.specs.Passed.{ReachesBy, Reaches}
+use Rattle.top_reply.specs.Passed.{ReachesBy}
 use Rattle.top_reply.specs.Query.{IsInspected, IsReplyTo, IsShownBy, shown_reply}
 use Rattle.top_reply.specs.Reply.{Reply}
 use Rattle.top_reply.specs.Top.{IsCourse, IsCourseOf, Tells, database_reads}
@@ -118,8 +116,8 @@ one_total s m n p q = p.total_is ∙ ap bytes_in (one_map s p.files q.files p.ar
 line_by : (count number accepted refused cells tiles bytes scratch : ℕ) → List ℕ
 line_by count number accepted refused cells tiles bytes scratch = joined
     (joined
-        (codes "trial " ∷ decimal count ∷ codes " " ∷ decimal number ∷ codes " accepted " ∷ decimal accepted
-        ∷ codes " refused " ∷ decimal refused ∷ [])
+    (codes "trial " ∷ decimal count ∷ codes " " ∷ decimal number ∷ codes " accepted " ∷ decimal accepted
+    ∷ codes " refused " ∷ decimal refused ∷ [])
     ∷ codes " cells " ∷ decimal cells ∷ codes " tiles " ∷ decimal tiles
     ∷ codes " bytes " ∷ decimal bytes ∷ codes " scratch " ∷ decimal scratch ∷ [])
 
@@ -154,7 +152,7 @@ one_of_command (Some (Database command)) held library a b p q =
     let opens = subst (λ held. OpensAs held p.opening) files p.opens in
     let openings : p.opening ≡ q.opening = one_opening q.files p.opening q.opening opens q.opens in
     let here = subst (λ opening. IsDatabaseCourse command p.books q.files opening a) openings
-        (subst (λ held. IsDatabaseCourse command p.books held p.opening a) files p.is) in
+    (subst (λ held. IsDatabaseCourse command p.books held p.opening a) files p.is) in
     one_of_database command p.books q.books q.files q.opening a b
     (told_same (database_reads command) library p.books q.books p.library_tells q.library_tells) here q.is
 one_of_command (Some (ReadCell file)) held library a b p q =

@@ -1,5 +1,5 @@
 -- A valid call is done.
-use Rattle.std.proofs.Common.{◌≡◌, ℕ, ℤ, Bool, true, false, nat_lt, List, [], ◌∷◌, Option, Some, None, refl, sym, ap, subst, ◌∙◌, if◌then◌else◌}
+use Rattle.std.proofs.Common.{◌≡◌, ℕ, ℤ, Bool, true, false, nat_lt, List, [], Option, Some, None, refl, ap, subst, ◌∙◌, if◌then◌else◌}
 use Rattle.std.specs.FinMap.{get, keys}
 use Rattle.terrain_base.specs.declared.name.Key.TheVariants.{Terrain, Note}
 use Rattle.terrain_base.specs.declared.tile.TileId.{TileId}
@@ -15,10 +15,10 @@ use Rattle.tile_rule.specs.Tile.{terrain_of, note_of}
 use Rattle.tile_rule.proofs.Tiles.{good_law}
 use Rattle.top_words.specs.declared.command.Query.{Query}
 use Rattle.top_words.specs.declared.command.Query.TheVariants.{List as ListCells, Inspect, Deps}
-use Rattle.top_words.specs.Words.{Edit, Add, Replace, Remove, DatabaseCommand, Ask, Change, Apply, Rebuild, Command, Init, Database, ReadCell, Audit, Trial}
+use Rattle.top_words.specs.Words.{Add, Replace, Remove, DatabaseCommand, Ask, Change, Apply, Rebuild, Command, Init, Database, ReadCell, Audit, Trial}
 use Rattle.database.specs.Commands.{settling}
 use Rattle.database.specs.Opening.{Opening, Opens, OpensAs}
-use Rattle.database.specs.State.{State, AreFiles, StandsFor, tile_exists, where_it_is}
+use Rattle.database.specs.State.{State, AreFiles, tile_exists, where_it_is}
 use Rattle.database.proofs.Openings.{one_opening}
 use Rattle.database.proofs.Settled.{settling_files}
 use Rattle.top_reply.specs.declared.status.Status.{Status}
@@ -28,14 +28,14 @@ use Rattle.top_reply.specs.Cell.{read_reply, read_reply_by}
 use Rattle.top_reply.specs.Course.{Course, World, Goes}
 use Rattle.top_reply.specs.Database.{IsApplied, IsDatabaseCourse, IsOpenedCourse, init_by}
 use Rattle.top_reply.specs.Edits.{status_by}
-use Rattle.top_reply.specs.File.{Bytes, found_in, reply_by, script_limit}
+use Rattle.top_reply.specs.File.{found_in, reply_by, script_limit}
 use Rattle.top_reply.specs.Laws.{ValidIsDone}
 use Rattle.top_reply.specs.Lines.{commands_of, refused_in}
 use Rattle.top_reply.specs.Query.{IsInspected, IsReplyTo, IsShownBy, shown_by, shown_reply}
 use Rattle.top_reply.specs.Reply.{Reply}
 use Rattle.top_reply.specs.Status.{IsAnswer}
 use Rattle.top_reply.specs.Top.{HasCourse, IsCourse, IsCourseOf, IsOpenedAs, Tells, database_reads, reads_file, touches_store}
-use Rattle.top_reply.specs.Valid.{IsValid, IsValidFile, IsValidOfDatabase, IsValidOver, IsValidQuery, IsValidScript}
+use Rattle.top_reply.specs.Valid.{IsValid, IsValidOfDatabase, IsValidOver, IsValidQuery, IsValidScript}
 use Rattle.top_reply.proofs.OneCourse.{told_same}
 use Rattle.top_reply.proofs.OneLines.{one_list}
 
@@ -59,14 +59,14 @@ inspected_done s files tile reply are sound exists is =
     let terrain = terrain_of s.params s.cells tile in
     let note = note_of s.params s.cells tile in
     let first : get files (Terrain tile) ≡ Some terrain =
-        are.each (Terrain tile) ∙ ap (λ there. where_it_is there terrain) exists in
+    are.each (Terrain tile) ∙ ap (λ there. where_it_is there terrain) exists in
     let second : get files (Note tile) ≡ Some note =
-        are.each (Note tile) ∙ ap (λ there. where_it_is there note) exists in
+    are.each (Note tile) ∙ ap (λ there. where_it_is there note) exists in
     let held : IsShownBy tile (get files (Terrain tile)) (get files (Note tile)) reply =
-        subst (λ there. IsInspected there tile files reply) exists is in
+    subst (λ there. IsInspected there tile files reply) exists is in
     let shown : IsShownBy tile (Some terrain) (Some note) reply =
-        subst (λ held. IsShownBy tile (Some terrain) held reply) second
-        (subst (λ held. IsShownBy tile held (get files (Note tile)) reply) first held) in
+    subst (λ held. IsShownBy tile (Some terrain) held reply) second
+    (subst (λ held. IsShownBy tile held (get files (Note tile)) reply) first held) in
     ap (λ told. told.status) shown.reply_is
     ∙ shown_done tile terrain note shown.least shown.greatest (unrefused s tile sound)
 
@@ -109,7 +109,7 @@ database_done command library files opening course opens is valid =
     let mark = valid.stands.mark in
     let stands = valid.stands.stands in
     let one : opening ≡ Opens valid.state mark =
-        one_opening files opening (Opens valid.state mark) opens stands.reads in
+    one_opening files opening (Opens valid.state mark) opens stands.reads in
     let settled = subst (λ opening. IsDatabaseCourse command library files opening course) one is in
     ap (λ told. told.status) settled.course_is
     ∙ opened_done command library valid.state (all_changed (settling mark files valid.state) files) settled.rest

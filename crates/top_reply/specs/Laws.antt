@@ -12,7 +12,7 @@ use Rattle.top_reply.specs.Course.{Course}
 use Rattle.top_reply.specs.Good.{IsGoodDatabase}
 use Rattle.top_reply.specs.Passed.{Passes, Reaches}
 use Rattle.top_reply.specs.Run.{Arrives, HoldsFilesOf}
-use Rattle.top_reply.specs.Top.{HasCourse, IsCourseOf, Tells, IsOpenedAs, IsCourse, touches_store, reads_file}
+use Rattle.top_reply.specs.Top.{HasCourse, IsCourseOf}
 use Rattle.top_reply.specs.Valid.{IsValid}
 
 -- a command has one course

@@ -1,7 +1,6 @@
 -- How a run went.
 use Rattle.std.specs.Prelude.{◌≡◌, ◌⊎◌, ℕ, ◌≤◌, List, [], ◌∷◌, Option, Some, None, IsSomeAnd}
-use Rattle.std.specs.FinMap.{get, keys}
-use Rattle.manifest_lines.specs.declared.state.State.TheVariants.{Closed}
+use Rattle.std.specs.FinMap.{keys}
 use Rattle.terrain_base.specs.Cause.{Rose}
 use Rattle.terrain_base.specs.Library.{LibraryFiles}
 use Rattle.terrain_base.specs.Overwrite.{all_changed}
