@@ -1,6 +1,11 @@
 pub mod Betweens
 pub mod Courses
+pub mod EachCourse
 pub mod GoodFiles
+pub mod HasLines
+pub mod Heights
+pub mod OneCourse
 pub mod OneLines
 pub mod Paths
 pub mod Running
+pub mod Valid

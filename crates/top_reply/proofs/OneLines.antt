@@ -1,5 +1,5 @@
 -- The lines of a script's bytes are one list.
-use Rattle.std.proofs.Common.{◌≡◌, ℕ, ◌≤◌, List, [], ◌∷◌, ◌++◌, codes, ap, sym, refl, ◌∙◌, arith, get_or}
+use Rattle.std.proofs.Common.{◌≡◌, ℕ, ◌≤◌, List, [], ◌∷◌, codes, ap, sym, refl, ◌∙◌, arith, get_or}
 use Rattle.std.proofs.lemmas.List.{append_cancel_left}
 use Rattle.std.specs.List.{AllZip}
 use Rattle.terrain_base.specs.Name.{row_text}

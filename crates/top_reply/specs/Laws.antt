@@ -3,15 +3,16 @@ use Rattle.std.specs.Prelude.{◌≡◌, List, [], ◌∷◌, Option, Some}
 use Rattle.terrain_base.specs.declared.params.Params.{Params}
 use Rattle.terrain_base.specs.Library.{LibraryFiles}
 use Rattle.terrain_base.specs.Step.{Files}
-use Rattle.top_words.specs.Words.{Command, DatabaseCommand}
+use Rattle.top_words.specs.Words.{Command, Database, DatabaseCommand}
+use Rattle.database.specs.Opening.{Opening, OpensAs}
 use Rattle.database.specs.State.{State, IsState, AreFiles, StandsFor}
 use Rattle.db_engine.specs.Holding.{no_cells}
 use Rattle.top_reply.specs.declared.status.Status.TheVariants.{Done}
 use Rattle.top_reply.specs.Course.{Course}
 use Rattle.top_reply.specs.Good.{IsGoodDatabase}
-use Rattle.top_reply.specs.Passed.{Reaches}
+use Rattle.top_reply.specs.Passed.{Passes, Reaches}
 use Rattle.top_reply.specs.Run.{Arrives, HoldsFilesOf}
-use Rattle.top_reply.specs.Top.{IsCourseOf, Tells, IsOpenedAs, IsCourse, touches_store, reads_file}
+use Rattle.top_reply.specs.Top.{HasCourse, IsCourseOf}
 use Rattle.top_reply.specs.Valid.{IsValid}
 
 -- a command has one course
@@ -23,6 +24,16 @@ OneCourse = (meaning : Option Command) (held : Option Files) (library : Option L
 abbrev pub OneState : Type 0
 OneState = (command : DatabaseCommand) (library : LibraryFiles) (s a b : State)
     → Reaches command library s a → Reaches command library s b → a ≡ b
+
+-- over files that open, each command on a database has a course, whatever the library holds
+abbrev pub EachHasCourse : Type 0
+EachHasCourse = (command : DatabaseCommand) (files : Files) (library : LibraryFiles) (opening : Opening)
+    → OpensAs files opening → HasCourse (Some (Database command)) (Some files) (Some library)
+
+-- and it passes states
+abbrev pub EachPasses : Type 0
+EachPasses = (command : DatabaseCommand) (library : LibraryFiles) (s : State)
+    → (states : List State) × Passes command library s states
 
 -- the files of a state are a good database
 abbrev pub FilesAreGood : Type 0

@@ -7,7 +7,6 @@ use Rattle.terrain_base.specs.declared.cell_key.CellKey.{CellKey}
 use Rattle.terrain_base.specs.declared.level.CellLevel.TheVariants.{Zero}
 use Rattle.terrain_base.specs.declared.params.Params.{Params}
 use Rattle.terrain_base.specs.Step.{Files}
-use Rattle.cell_mosaic.specs.Summaries.{summaries_of}
 use Rattle.dted_cell.specs.Header.{square_of}
 use Rattle.dted_write.specs.Cell.{cell_text}
 use Rattle.dted_write.specs.Generate.{generated_post}

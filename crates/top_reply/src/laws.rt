@@ -1,6 +1,6 @@
 //! What courses and states are held to. Each function does nothing, or calls the laws that it rests on: its contract is a
 //! law.
-ghost use Rattle.top_reply.specs.Laws.{FilesAreGood, OneCourse, OneState, RunsChain, ValidIsDone};
+ghost use Rattle.top_reply.specs.Laws.{EachHasCourse, EachPasses, FilesAreGood, OneCourse, OneState, RunsChain, ValidIsDone};
 
 /// A command has one course.
 pub fn one_course()
@@ -10,6 +10,12 @@ pub fn one_course()
 /// A command on a database reaches one state.
 pub fn one_state()
     ensures { OneState }
+{}
+
+/// Over files that open, each command on a database has a course, and states that it passes.
+pub fn each_has_course()
+    ensures course { EachHasCourse }
+    ensures states { EachPasses }
 {}
 
 /// The files of a state are a good database: each tile that exists decodes to triangles that cover it once, keep the
