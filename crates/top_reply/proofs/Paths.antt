@@ -179,6 +179,39 @@ module _ (Is Ends : Files → State → Type 0) where
       subst (λ n. Stopped Is e s states n w'.held) count
       (record { between = r.between; input = r.input; output = r.output })
 
+  -- where the sink took anything of the turn, its changes are made
+  if_printed : (e : Stop) (turn : Turn) (files : Files) (s t : State) (w w' : World) → Leads Is turn.steps files s t
+      → w.held ≡ Some files → StopsAt e turn w w' → (w'.taken ≡ w.taken → ⊥) → IsSomeAnd w'.held (λ now. Is now t)
+  if_printed stop.Input turn files s t w w' leads is at put = absurd (put at.taken)
+  if_printed stop.Store turn files s t w w' leads is at put = absurd (put at.taken)
+  if_printed stop.Output turn files s t w w' leads is at put = all_steps turn files s t w w' leads is at.steps
+  if_printed stop.NoMemory turn files s t w w' leads is (inl at) put = absurd (put at.taken)
+  if_printed stop.NoMemory turn files s t w w' leads is (inr at) put = all_steps turn files s t w w' leads is at.steps
+
+  nothing_put : (e : Stop) (turn : Turn) (w w' : World) → turn.text ≡ [] → StopsAt e turn w w' → w'.taken ≡ w.taken
+  nothing_put stop.Input turn w w' none at = at.taken
+  nothing_put stop.Store turn w w' none at = at.taken
+  nothing_put stop.Output turn w w' none at =
+      let some = at.some in let length_is : length turn.text ≡ 0 = ap length none in absurd (omega (arith, some, length_is))
+  nothing_put stop.NoMemory turn w w' none (inl at) = at.taken
+  nothing_put stop.NoMemory turn w w' none (inr at) =
+      let some = at.some in let length_is : length turn.text ≡ 0 = ap length none in absurd (omega (arith, some, length_is))
+
+  printed_at : (e : Stop) (before : List Turn) (turn : Turn) (later : List Turn) (steps : List Step) (tiles : ℕ)
+      (rest : List Turn) (s : State) (states : List State) (files : Files) (w mid w' : World)
+      → quiet_turn steps tiles ∷ rest ≡ before ++ turn ∷ later → Path Is Ends files s (before ++ turn ∷ later) (s ∷ states)
+      → w.held ≡ Some files → TurnsDone before w mid → StopsAt e turn mid w' → (w'.taken ≡ mid.taken → ⊥)
+      → IsSomeAnd w'.held (λ now. Is now (state_at s states (suc (length before - 1))))
+  printed_at e [] turn later steps tiles rest s states files w mid w' parts path is done at put =
+      let none = ap (λ (x : Turn). x.text) (first_turn (quiet_turn steps tiles) turn rest later parts) in
+      absurd (put (nothing_put e turn mid w' none at))
+  printed_at e (first ∷ before) turn later steps tiles rest s states files w mid w' parts path is done at put =
+      let count : length before ≡ length (first ∷ before) - 1 = omega arith in
+      subst (λ n. IsSomeAnd w'.held (λ now. Is now (state_at s states (suc n)))) count
+      (if_printed e turn (all_changed (steps_of (first ∷ before)) files) (state_at s states (length before))
+      (state_at s states (suc (length before))) mid w' (at_turn (first ∷ before) turn later s (s ∷ states) files path)
+      (told_after (steps_of (first ∷ before)) w.held mid.held files is done.steps.held) at put)
+
   -- where a run stops whose first turn settles
   pub run_stops : (e : Stop) (steps : List Step) (tiles : ℕ) (rest : List Turn) (s : State) (states : List State)
       (files : Files) (w w' : World) → Path Is Ends files s (quiet_turn steps tiles ∷ rest) (s ∷ states)
@@ -187,6 +220,8 @@ module _ (Is Ends : Files → State → Type 0) where
   run_stops e steps tiles rest s states files w w' path is at = record {
     stops = at;
     stopped = stopped_at e at.before at.turn at.later steps tiles rest s states files w at.mid w' at.parts
+        (subst (λ turns. Path Is Ends files s turns (s ∷ states)) at.parts path) is at.done at.at;
+    printed = printed_at e at.before at.turn at.later steps tiles rest s states files w at.mid w' at.parts
         (subst (λ turns. Path Is Ends files s turns (s ∷ states)) at.parts path) is at.done at.at;
   }
 
