@@ -1,6 +1,7 @@
 //! What courses and states are held to. Each function does nothing, or calls the laws that it rests on: its contract is a
 //! law.
-ghost use Rattle.top_reply.specs.Laws.{EachHasCourse, EachPasses, FilesAreGood, OneCourse, OneState, RunsChain, ValidIsDone};
+ghost use Rattle.database.specs.State.{ReadsFor, StandsFor};
+ghost use Rattle.top_reply.specs.Laws.{EachHasCourse, EachPasses, FilesAreGood, LinesAreTold, OneCourse, OneState, RunsChain, ValidIsDone};
 
 /// A command has one course.
 pub fn one_course()
@@ -27,6 +28,14 @@ pub fn files_are_good()
     tile_rule::laws::files_are_good();
     tile_rule::laws::neighbours_meet();
 }
+
+/// Where a script was stopped: of the states that it passes the files are that after as many command lines as the sink
+/// took whole lines beginning with `line `, or that after one more; and the first of these, where a file outside was not
+/// read. So it is of files that stood for a state, and of files that only read as one.
+pub fn lines_are_told()
+    ensures standing { LinesAreTold StandsFor }
+    ensures reading { LinesAreTold ReadsFor }
+{}
 
 /// The course of a valid call is done.
 pub fn valid_is_done()
