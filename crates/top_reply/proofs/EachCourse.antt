@@ -53,7 +53,8 @@ has_reply (Deps tile) s files = (_, refl)
 
 -- ---- courses
 
-has_applied : (found : Found) (library : LibraryFiles) (s : State) → (course : Course) × IsApplied found library s course
+has_applied : (found : Found) (library : LibraryFiles) (s : State)
+    → (course : Course) × IsApplied found library s course
 has_applied (Bytes bytes) library s =
     let lines = has_lines bytes in (_, record { lines = lines.0; are = lines.1; course_is = refl })
 has_applied (NoFile cause) library s = (_, refl)
@@ -98,7 +99,8 @@ each_has_course command files library opening opens =
 
 -- ---- states
 
-has_passed : (found : Found) (library : LibraryFiles) (s : State) → (states : List State) × PassesBy found library s states
+has_passed : (found : Found) (library : LibraryFiles) (s : State)
+    → (states : List State) × PassesBy found library s states
 has_passed (Bytes bytes) library s =
     let lines = has_lines bytes in (_, record { lines = lines.0; are = lines.1; states_are = refl })
 has_passed (NoFile cause) library s = (_, refl)

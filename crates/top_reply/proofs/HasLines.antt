@@ -32,8 +32,10 @@ same_or_not (x ∷ xs) (y ∷ ys) = by_parts (cases_order x y) (same_or_not xs y
     by_parts : (x ≡ y) ⊎ ((x < y) ⊎ (y < x)) → YesOrNo (xs ≡ ys) → YesOrNo (x ∷ xs ≡ y ∷ ys)
     by_parts (inl same) (inl all) = inl (λ i. same i ∷ all i)
     by_parts (inl same) (inr differ) = inr (λ e. differ (cc))
-    by_parts (inr (inl less)) rest = inr (λ e. let same : x ≡ y = ap (λ zs. get_or zs 0 0) e in omega (arith, less, same))
-    by_parts (inr (inr more)) rest = inr (λ e. let same : x ≡ y = ap (λ zs. get_or zs 0 0) e in omega (arith, more, same))
+    by_parts (inr (inl less)) rest = inr (λ e. let same : x ≡ y = ap (λ zs. get_or zs 0 0) e in omega
+        (arith, less, same))
+    by_parts (inr (inr more)) rest = inr (λ e. let same : x ≡ y = ap (λ zs. get_or zs 0 0) e in omega
+        (arith, more, same))
 
 -- among the numbers below a bound
 pub below : (P : ℕ → Type 0) → ((n : ℕ) → YesOrNo (P n)) → (bound : ℕ)
@@ -90,7 +92,8 @@ file_line line word = by_rest (behind word line)
         let some = is.some in omega (arith, none, some))
     by_file (first ∷ file) same = by_text first file same (utf8_or_not (first ∷ file))
 
-    by_rest : SomeOrNone (List ℕ) (λ file. line ≡ word ++ file) → SomeOrNone (List ℕ) (λ file. IsFileLine line word file)
+    by_rest : SomeOrNone (List ℕ) (λ file. line ≡ word ++ file)
+        → SomeOrNone (List ℕ) (λ file. IsFileLine line word file)
     by_rest (inl rest) = by_file rest.0 rest.1
     by_rest (inr none) = inr (λ file is. none file is.same)
 

@@ -24,7 +24,8 @@ within_or_not m n = by_order (cases_order m n)
 
 normal_or_not : (sign size bits : ℕ) → YesOrNo (IsNormal32 sign size bits)
 normal_or_not sign size bits =
-    by_parts (number_or_not (sign32 bits) sign) (within_or_not 1 (exponent32 bits)) (within_or_not (exponent32 bits) 254)
+    by_parts (number_or_not (sign32 bits) sign) (within_or_not 1 (exponent32 bits)) (within_or_not
+    (exponent32 bits) 254)
     (number_or_not ((2 ^ 23 + fraction32 bits) * 2 ^ exponent32 bits) (size * 2 ^ 150))
   where
     by_parts : YesOrNo (sign32 bits ≡ sign) → YesOrNo (1 ≤ exponent32 bits) → YesOrNo (exponent32 bits ≤ 254)
@@ -49,7 +50,8 @@ has_height bits =
     (below (λ n. IsBits32 (negsuc n) bits) (down_or_not bits) 16777215)
   where
     by_each : ((n : ℕ) × (n < 2 ^ 24) × IsBits32 (pos n) bits) ⊎ ((n : ℕ) → n < 2 ^ 24 → IsBits32 (pos n) bits → ⊥)
-        → ((n : ℕ) × (n < 16777215) × IsBits32 (negsuc n) bits) ⊎ ((n : ℕ) → n < 16777215 → IsBits32 (negsuc n) bits → ⊥)
+        → ((n : ℕ) × (n < 16777215) × IsBits32 (negsuc n) bits) ⊎ ((n : ℕ) → n < 16777215 → IsBits32 (negsuc n) bits
+        → ⊥)
         → (height : Option ℤ) × IsHeightWord bits height
     by_each (inl found) q = (Some (pos found.0), (found.1, found.2))
     by_each (inr p) (inl found) = let less = found.1 in (Some (negsuc found.0), (omega (arith, less), found.2))

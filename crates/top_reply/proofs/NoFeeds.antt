@@ -1,5 +1,5 @@
 -- The lines that reports are made of have no line feed inside.
-use Rattle.std.proofs.Common.{◌≡◌, ◌≢◌, ℕ, ℤ, pos, negsuc, zero, suc, ◌+◌, ◌/◌, ◌%◌, ◌==◌, nat_le, nat_lt, Bool, true, false, not, ◌&&◌, List, [], ◌∷◌, ◌++◌, length, codes, decimal, Option, Some, None, refl, sym, ap, subst, ◌∙◌, arith, cond, if◌then◌else◌}
+use Rattle.std.proofs.Common.{◌≡◌, ◌≢◌, ℕ, ℤ, pos, negsuc, zero, suc, ◌+◌, ◌/◌, ◌%◌, ◌==◌, nat_le, nat_lt, Bool, true, false, not, ◌&&◌, List, [], ◌∷◌, length, codes, decimal, Option, Some, None, refl, subst, arith, if◌then◌else◌}
 use Rattle.std.specs.List.{AllByRecursion}
 use Rattle.std.specs.Fmt.{digit_glyph, digits, digits_onto, signed_decimal}
 use Rattle.std.proofs.lemmas.Bool.{eq-eqb}
@@ -84,10 +84,26 @@ pub too_long_line : (file : List ℕ) (limit : ℕ) → IsLine file → IsLine (
 too_long_line file limit is = joined_line (codes "F2 too long " ∷ file ∷ codes " limit " ∷ decimal limit ∷ [])
     (plain (codes "F2 too long ") refl, (is, (plain (codes " limit ") refl, (number limit, tt))))
 
+one_number : (a : List ℕ) (m : ℕ) → is_plain a ≡ true → IsLine (joined (a ∷ decimal m ∷ []))
+one_number a m p = joined_line (a ∷ decimal m ∷ []) (plain a p, (number m, tt))
+
+two_numbers : (a b : List ℕ) (m n : ℕ) → is_plain a ≡ true → is_plain b ≡ true
+    → IsLine (joined (a ∷ decimal m ∷ b ∷ decimal n ∷ []))
+two_numbers a b m n p q =
+    joined_line (a ∷ decimal m ∷ b ∷ decimal n ∷ []) (plain a p, (number m, (plain b q, (number n, tt))))
+
+-- and a third text behind a third word
+three_texts : (a b c : List ℕ) (m n : ℕ) (text : List ℕ) → is_plain a ≡ true → is_plain b ≡ true → is_plain c ≡ true
+    → IsLine text → IsLine (joined (a ∷ decimal m ∷ b ∷ decimal n ∷ c ∷ text ∷ []))
+three_texts a b c m n text p q r is =
+    let last : AllByRecursion IsLine (c ∷ text ∷ []) = (plain c r, (is, tt)) in
+    joined_line (a ∷ decimal m ∷ b ∷ decimal n ∷ c ∷ text ∷ [])
+    (plain a p, (number m, (plain b q, (number n, last))))
+
 pub cell_line : (refusal : CellRefusal) → IsLine (cell_refusal_of refusal)
-cell_line (TooShort need have) = joined_line (codes "C1 too short need " ∷ decimal need ∷ codes " have " ∷ decimal have ∷ []) (plain (codes "C1 too short need ") refl, (number need, (plain (codes " have ") refl, (number have, tt))))
+cell_line (TooShort need have) = two_numbers (codes "C1 too short need ") (codes " have ") need have refl refl
 cell_line NoUhl = plain (codes "C2 no UHL") refl
-cell_line (BadField offset) = joined_line (codes "C3 bad field at " ∷ decimal offset ∷ []) (plain (codes "C3 bad field at ") refl, (number offset, tt))
+cell_line (BadField offset) = one_number (codes "C3 bad field at ") offset refl
 cell_line OffDegree = plain (codes "C4 off degree") refl
 cell_line WrongSpacing = plain (codes "C5 wrong spacing") refl
 cell_line WrongCounts = plain (codes "C6 wrong counts") refl
@@ -95,10 +111,14 @@ cell_line NoDsi = plain (codes "C7 no DSI") refl
 cell_line SeriesDisagrees = plain (codes "C8 series disagrees") refl
 cell_line NotWgs84 = plain (codes "C9 not WGS84") refl
 cell_line NoAcc = plain (codes "C10 no ACC") refl
-cell_line (BadSentinel col) = joined_line (codes "C11 bad sentinel column " ∷ decimal col ∷ []) (plain (codes "C11 bad sentinel column ") refl, (number col, tt))
-cell_line (BadColumn col) = joined_line (codes "C12 bad column " ∷ decimal col ∷ []) (plain (codes "C12 bad column ") refl, (number col, tt))
-cell_line (BadChecksum col stated summed) = joined_line (codes "C13 bad checksum column " ∷ decimal col ∷ codes " stated " ∷ decimal stated ∷ codes " summed " ∷ decimal summed ∷ []) (plain (codes "C13 bad checksum column ") refl, (number col, (plain (codes " stated ") refl, (number stated, (plain (codes " summed ") refl, (number summed, tt))))))
-cell_line (HeightOutOfRange col row value) = joined_line (codes "C14 height column " ∷ decimal col ∷ codes " row " ∷ decimal row ∷ codes " value " ∷ signed_decimal value ∷ []) (plain (codes "C14 height column ") refl, (number col, (plain (codes " row ") refl, (number row, (plain (codes " value ") refl, (whole value, tt))))))
+cell_line (BadSentinel col) = one_number (codes "C11 bad sentinel column ") col refl
+cell_line (BadColumn col) = one_number (codes "C12 bad column ") col refl
+cell_line (BadChecksum col stated summed) =
+    three_texts (codes "C13 bad checksum column ") (codes " stated ") (codes " summed ") col stated (decimal summed)
+    refl refl refl (number summed)
+cell_line (HeightOutOfRange col row value) =
+    three_texts (codes "C14 height column ") (codes " row ") (codes " value ") col row (signed_decimal value)
+    refl refl refl (whole value)
 
 -- ---- what a database answers to an edit
 
@@ -149,8 +169,19 @@ word_line Removed = plain (codes "removed") refl
 
 edited_line : (edited : Edited) (square : Square) (tiles : ℕ) → IsLine (edited_line_of edited square tiles)
 edited_line edited square tiles =
-    joined_line (word_of edited ∷ codes " " ∷ square_text square ∷ codes " tiles " ∷ decimal tiles ∷ [])
-    (word_line edited, (plain (codes " ") refl, (line-square square, (plain (codes " tiles ") refl, (number tiles, tt)))))
+    joined_line (word_of edited ∷ codes " " ∷ square_text square ∷ codes " tiles " ∷ decimal tiles ∷ []) (
+      word_line edited,
+      (
+        plain (codes " ") refl,
+        (
+          line-square square,
+          (
+            plain (codes " tiles ") refl,
+            (number tiles, tt),
+          ),
+        ),
+      ),
+    )
 
 pub done_is_line : (c : Command) (s : State) → IsLine (done_line c s)
 done_is_line (Add key bytes) s = edited_line Added key.square (tiles_in s)

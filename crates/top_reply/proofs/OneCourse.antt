@@ -75,7 +75,8 @@ one_reply (Deps tile) s files a b p q = p ∙ sym q
 one_applied : (found : Found) (library : LibraryFiles) (s : State) (a b : Course) → IsApplied found library s a
     → IsApplied found library s b → a ≡ b
 one_applied (Bytes bytes) library s a b p q =
-    p.course_is ∙ ap (λ lines. lines_course library (commands_of 1 lines) s) (one_list bytes p.lines q.lines p.are q.are)
+    p.course_is ∙ ap (λ lines. lines_course library (commands_of 1 lines) s)
+    (one_list bytes p.lines q.lines p.are q.are)
     ∙ sym q.course_is
 one_applied (NoFile cause) library s a b p q = p ∙ sym q
 

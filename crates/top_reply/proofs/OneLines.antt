@@ -41,7 +41,8 @@ one_edit line (Remove key) (Add b) p q =
     let first : ◌≡◌ {A = ℕ} 114 97 = ap (λ text. get_or text 0 0) (sym p ∙ q.same) in absurd (omega (arith, first))
 one_edit line (Remove key) (Replace b) p q =
     let third : ◌≡◌ {A = ℕ} 109 112 = ap (λ text. get_or text 2 0) (sym p ∙ q.same) in absurd (omega (arith, third))
-one_edit line (Remove a) (Remove b) p q = ap Remove (key_apart a b (append_cancel_left (codes "remove ") (row_text a) (row_text b) (sym p ∙ q)))
+one_edit line (Remove a) (Remove b) p q = ap Remove (key_apart a b (append_cancel_left (codes "remove ")
+    (row_text a) (row_text b) (sym p ∙ q)))
 
 -- ---- one line of bytes, and one list of lines
 

@@ -192,10 +192,12 @@ module _ (Is Ends : Files → State → Type 0) where
   nothing_put stop.Input turn w w' none at = at.taken
   nothing_put stop.Store turn w w' none at = at.taken
   nothing_put stop.Output turn w w' none at =
-      let some = at.some in let length_is : length turn.text ≡ 0 = ap length none in absurd (omega (arith, some, length_is))
+      let some = at.some in
+      let length_is : length turn.text ≡ 0 = ap length none in absurd (omega (arith, some, length_is))
   nothing_put stop.NoMemory turn w w' none (inl at) = at.taken
   nothing_put stop.NoMemory turn w w' none (inr at) =
-      let some = at.some in let length_is : length turn.text ≡ 0 = ap length none in absurd (omega (arith, some, length_is))
+      let some = at.some in
+      let length_is : length turn.text ≡ 0 = ap length none in absurd (omega (arith, some, length_is))
 
   printed_at : (e : Stop) (before : List Turn) (turn : Turn) (later : List Turn) (steps : List Step) (tiles : ℕ)
       (rest : List Turn) (s : State) (states : List State) (files : Files) (w mid w' : World)

@@ -1,12 +1,11 @@
 -- The whole lines that the sink took tell how many lines of a script are done.
-use Rattle.std.proofs.Common.{◌≡◌, ◌⊎◌, inl, inr, ℕ, zero, suc, ◌+◌, ◌-◌, ◌<◌, ◌≤◌, nat_lt, Bool, true, false, List, [], ◌∷◌, ◌++◌, length, take, codes, cond, decimal, Option, Some, None, option_map, refl, sym, ap, subst, ◌∙◌, arith, append_assoc, length-append, if◌then◌else◌}
+use Rattle.std.proofs.Common.{◌≡◌, ◌⊎◌, inl, inr, ℕ, zero, suc, ◌+◌, ◌-◌, ◌<◌, ◌≤◌, nat_lt, Bool, true, false, List, [], ◌∷◌, ◌++◌, length, take, codes, cond, Option, Some, None, option_map, refl, sym, ap, subst, ◌∙◌, arith, append_assoc, length-append, if◌then◌else◌}
 use Rattle.std.specs.Prelude.{IsSomeAnd, ◌≢◌}
 use Rattle.std.specs.Cmp.{unsigned_Decides}
 use Rattle.std.specs.FinMap.{get}
 use Rattle.std.specs.List.{AllByRecursion, slice_split, onto_first}
 use Rattle.std.proofs.lemmas.Bool.{cases_order}
 use Rattle.std.proofs.lemmas.List.{append-nil, append_cancel_left, take-append-le}
-use Rattle.std.proofs.Math.Seq.{take-append-add, take-length}
 use Rattle.terrain_base.specs.Library.{LibraryFiles}
 use Rattle.terrain_base.specs.Sink.{FrontTaken, IsFront}
 use Rattle.terrain_base.specs.Step.{Files, Step}
@@ -15,7 +14,7 @@ use Rattle.dted_cell.specs.Refusal as cell
 use Rattle.terrain_base.specs.declared.cell_key.CellKey.{CellKey}
 use Rattle.manifest_lines.specs.Line.{IsLine}
 use Rattle.manifest_lines.proofs.Lines.{line-append}
-use Rattle.top_words.specs.Script.{AreLines, HasNoFeed, is_line_feed}
+use Rattle.top_words.specs.Script.{is_line_feed}
 use Rattle.top_words.specs.Words.{Edit, Add, Replace, Remove}
 use Rattle.database.specs.declared.answer.EngineAnswer.{EngineAnswer}
 use Rattle.database.specs.Commands as database
@@ -24,13 +23,13 @@ use Rattle.database.specs.State.{State}
 use Rattle.db_report.specs.Done.{script_line_of, script_mark_of}
 use Rattle.top_reply.specs.declared.stop.Stop.{Stop}
 use Rattle.top_reply.specs.declared.stop.Stop.TheVariants as stop
-use Rattle.top_reply.specs.Course.{World, Turn, quiet_turn, text_of, text_turn, StopsAt, StopsIn}
-use Rattle.top_reply.specs.Edits.{Wanted, Refused, Wants, done_line, wanted, wanted_by, wanted_of, wanted_reply, command_reply_by}
-use Rattle.top_reply.specs.File.{Found, Bytes, NoFile, cell_limit, found_in, too_long_text}
+use Rattle.top_reply.specs.Course.{World, Turn, quiet_turn, text_of, text_turn, StopsAt}
+use Rattle.top_reply.specs.Edits.{Wanted, Refused, Wants, done_line, wanted_by, wanted_of, wanted_reply, command_reply_by}
+use Rattle.top_reply.specs.File.{Bytes, NoFile, cell_limit, found_in, too_long_text}
 use Rattle.top_reply.specs.Laws.{LinesAreTold}
-use Rattle.top_reply.specs.Lines.{Numbered, commands_of, done_in, ended_text, line_reply, lines_course, refused_in, turn_by, turns_of, wanted_at}
+use Rattle.top_reply.specs.Lines.{Numbered, commands_of, done_in, ended_text, line_reply, refused_in, turn_by, turns_of, wanted_at}
 use Rattle.top_reply.specs.Passed.{Stopped, state_at}
-use Rattle.top_reply.specs.Reply.{cause_of, done_reply, refused_reply}
+use Rattle.top_reply.specs.Reply.{cause_of, refused_reply}
 use Rattle.top_reply.specs.Told.{StopsTold, lines_told, tells_line, told_in}
 use Rattle.top_reply.proofs.FileLines.{HasLineName, HaveLineNames, front_line, have_line_names}
 use Rattle.top_reply.proofs.NoFeeds.{absent_line, cell_line, done_is_line, mark_line, plain, refusal_line, script_line, too_long_line}
@@ -51,6 +50,7 @@ cut_some (byte ∷ text) = by_test (is_line_feed byte)
     onto_some : (parts : List (List ℕ)) → 0 < length (onto_first byte parts)
     onto_some [] = omega arith
     onto_some (part ∷ parts) = omega arith
+
     by_test : (b : Bool) → 0 < length (cond b ([] ∷ slice_split is_line_feed text)
         (onto_first byte (slice_split is_line_feed text)))
     by_test true = omega arith
@@ -113,6 +113,7 @@ front_of count part is = by_order (cases_order count (length part))
     within : count ≤ length part → lines_told (take count (part ++ 10 ∷ [])) ≡ 0
     within few =
         ap lines_told (take-append-le count part (10 ∷ []) few) ∙ told_none (take count part) (front_line count part is)
+
     by_order : (count ≡ length part) ⊎ ((count < length part) ⊎ (length part < count))
         → (lines_told (take count (part ++ 10 ∷ [])) ≡ 0) ⊎ (take count (part ++ 10 ∷ []) ≡ part ++ 10 ∷ [])
     by_order (inl same) = inl (within (omega (arith, same)))
@@ -170,7 +171,8 @@ unfolding IsLineWanted
 found_wanted make file None is = absent_line file is
 found_wanted make file (Some bytes) is = by_test (nat_lt cell_limit (length bytes))
   where
-    by_test : (b : Bool) → IsLineWanted (wanted_of make (if b then NoFile (too_long_text file cell_limit) else Bytes bytes))
+    by_test : (b : Bool) → IsLineWanted (wanted_of make (if b then NoFile
+        (too_long_text file cell_limit) else Bytes bytes))
     by_test true = too_long_line file cell_limit is
     by_test false = bytes_wanted make bytes (cell.refusal_of bytes)
 
@@ -217,7 +219,7 @@ unfolding AreTold
 count_turns [] rest all = omega arith
 count_turns (turn ∷ turns) rest all =
     let first = ap lines_told (append_assoc turn.text (text_of turns) rest)
-        ∙ whole_told true turn.text (text_of turns ++ rest) all.0 in
+    ∙ whole_told true turn.text (text_of turns ++ rest) all.0 in
     let later = count_turns turns rest all.1 in
     omega (arith, first, later)
 
@@ -295,7 +297,7 @@ put_whole : (tells : Bool) (text taken : List ℕ) (told taken' : Option (List �
     → told ≡ Some taken → taken' ≡ Some (taken ++ take count text) → take count text ≡ text → taken' ≡ told → ⊥
 put_whole tells text taken told taken' count one is follows all same =
     let nothing : take count text ≡ [] =
-        same_more taken (take count text) [] taken' follows (same ∙ is ∙ ap Some (sym (append-nil taken))) in
+    same_more taken (take count text) [] taken' follows (same ∙ is ∙ ap Some (sym (append-nil taken))) in
     let none : length text ≡ 0 = ap length (sym all ∙ nothing) in
     let some = some_text tells text one in omega (arith, none, some)
 
@@ -331,6 +333,7 @@ counts_behind e before turn taken more told taken' cut is put follows =
     all_told = ap lines_told (same_more taken more (text_of before ++ take put.count turn.text) taken' follows
         (put.follows ∙ ap Some (append_assoc taken (text_of before) (take put.count turn.text))))
         ∙ count_turns before (take put.count turn.text) cut.are
+
     by_front : (lines_told (take put.count turn.text) ≡ 0)
         ⊎ ((lines_told (take put.count turn.text) ≡ 1) × (take put.count turn.text ≡ turn.text))
         → Counts e (length before) (lines_told more) (taken' ≡ told → ⊥)
@@ -358,17 +361,17 @@ counts e xs [] later steps tiles last turn w mid w' taken more parts all end don
     let here = told_mid [] w mid taken is done in
     let put = is_put e turn mid w' (taken ++ []) here at in
     let front : take put.count turn.text ≡ [] =
-        ap (take put.count) silent ∙ beyond put.count [] (omega arith) in
+    ap (take put.count) silent ∙ beyond put.count [] (omega arith) in
     let nothing : more ≡ [] = same_more taken more [] w'.taken follows
-        (put.follows ∙ ap (λ xs. Some ((taken ++ []) ++ xs)) front ∙ ap Some (append-nil (taken ++ []))) in
+    (put.follows ∙ ap (λ xs. Some ((taken ++ []) ++ xs)) front ∙ ap Some (append-nil (taken ++ []))) in
     inl (ap lines_told nothing ∙ told_none [] tt)
 counts e xs (first ∷ before) later steps tiles last turn w mid w' taken more parts all end done at is follows =
     let same : quiet_turn steps tiles ≡ first = cc in
     let rest : xs ++ last ∷ [] ≡ before ++ turn ∷ later = cc in
     let texts : text_of (first ∷ before) ≡ text_of before =
-        ap (λ (t : Turn). t.text ++ text_of before) (sym same) in
+    ap (λ (t : Turn). t.text ++ text_of before) (sym same) in
     let here : mid.taken ≡ Some (taken ++ text_of before) =
-        told_mid (first ∷ before) w mid taken is done ∙ ap (λ text. Some (taken ++ text)) texts in
+    told_mid (first ∷ before) w mid taken is done ∙ ap (λ text. Some (taken ++ text)) texts in
     let cut = cut_at xs before later last turn rest all end in
     let put = is_put e turn mid w' (taken ++ text_of before) here at in
     let size : length before ≡ length (first ∷ before) - 1 = omega arith in
@@ -401,6 +404,7 @@ module _ (Is : Files → State → Type 0) where
       let last = text_turn (ended_text (done_in library numbered s) (refused_in library numbered s)) in
       by_count e s states (length at.before - 1) (lines_told more) w'.held (w'.taken ≡ at.mid.taken → ⊥) stops.stopped
       stops.printed
-      (counts e (turns_of library numbered s) at.before at.later steps tiles last at.turn w at.mid w' taken more at.parts
+      (counts e (turns_of library numbered s) at.before at.later steps tiles last at.turn w at.mid w' taken more
+      at.parts
       (turns_told library numbered s (have_line_names 1 bytes lines are))
       (end_told (done_in library numbered s) (refused_in library numbered s)) at.done.text at.at is follows)

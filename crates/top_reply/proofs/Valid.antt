@@ -102,7 +102,8 @@ opened_done (Change edit) library s files course are sound valid is =
 opened_done (Apply script) library s files course are sound valid is = script_done script library s course valid is
 opened_done Rebuild library s files course are sound valid is = ap (λ told. told.status) is
 
-database_done : (command : DatabaseCommand) (library : LibraryFiles) (files : Files) (opening : Opening) (course : Course)
+database_done : (command : DatabaseCommand) (library : LibraryFiles) (files : Files) (opening : Opening)
+    (course : Course)
     → OpensAs files opening → IsDatabaseCourse command library files opening course
     → IsValidOfDatabase command files library → course.status ≡ Done
 database_done command library files opening course opens is valid =
