@@ -1,3 +1,11 @@
-pub mod Fronts
+pub mod Asked
+pub mod Coming
+pub mod Commands
+pub mod EditsGo
+pub mod Heights
+pub mod Lines
 pub mod Meanings
+pub mod Scripts
+pub mod Settled
 pub mod Tiles
+pub mod Whole

@@ -3,7 +3,7 @@ use Rattle.std.proofs.Common.{◌≡◌, ℕ, List, Option, Some, None, option_m
 use Rattle.top_words.specs.declared.command.Command as coded
 use Rattle.top_words.specs.Meant.{meant}
 use Rattle.top_words.specs.Words.{Command, Spells}
-use Rattle.terrain_top.specs.Top.{IsMeant}
+use Rattle.top_reply.specs.Top.{IsMeant}
 
 pub means : (words : List (List ℕ)) (command : Option coded.Command) → IfSome command (λ c. Spells words (meant c))
     → ((c : Command) → Spells words c → option_map meant command ≡ Some c) → IsMeant words (option_map meant command)

@@ -6,9 +6,8 @@ use Rattle.mesh_codec.specs.Refusal.{tile_refusal_of}
 use Rattle.db_report.specs.Tile.{tile_line_of}
 use Rattle.terrain_top.specs.declared.answer.Answer.{Answer}
 use Rattle.terrain_top.specs.declared.answer.Ending.TheVariants.{Done}
-use Rattle.terrain_top.specs.Reply.{Says}
-use Rattle.terrain_top.specs.Status.{status_at}
-use Rattle.terrain_top.specs.Told.{shown_reply}
+use Rattle.top_reply.specs.Query.{shown_reply}
+use Rattle.terrain_top.specs.Says.{Says, status_at}
 
 pub shown : (tile : TileId) (terrain note : List ℕ) (least greatest : Option ℤ) (answer : Answer) → None ≡ tile_refusal_of terrain → answer.ending ≡ Done
     → answer.text.items ≡ tile_line_of tile (length terrain) terrain least greatest ++ (codes "\n" ++ note) → Says (shown_reply tile terrain note least greatest) answer

@@ -6,8 +6,8 @@ use Rattle.terrain_base.specs.Step.{Files}
 use Rattle.terrain_base.specs.declared.store.Change.{Change}
 use Rattle.database.specs.declared.answer.EngineAnswer.{EngineAnswer}
 use Rattle.database.specs.declared.answer.EngineAnswer.TheVariants as engine
-use Rattle.terrain_top.specs.declared.stop.Stop.{Stop}
-use Rattle.terrain_top.specs.declared.stop.Stop.TheVariants.{Input, Store, NoMemory}
+use Rattle.top_reply.specs.declared.stop.Stop.{Stop}
+use Rattle.top_reply.specs.declared.stop.Stop.TheVariants.{Input, Store, NoMemory}
 
 -- the object's count of faults never falls, and the command stops at the object only where it rose
 pub record StopHasCause {T : Type 0} (stop : Stop) (before now : ℕ) (result : Result T Stop) : Type 0 where

@@ -1,9 +1,8 @@
-pub mod Audit
-pub mod Cell
+pub mod Comes
+pub mod EditGoes
 pub mod Effects
-pub mod File
-pub mod Reply
-pub mod Run
-pub mod Status
+pub mod LinesGo
+pub mod Meant
+pub mod Says
 pub mod Told
-pub mod Top
+pub mod Turns

@@ -1,10 +1,11 @@
 // What a command comes to.
 ghost use Rattle.std.specs.Prelude.{◌≡◌, IfErr, IfOk};
-ghost use Rattle.terrain_top.specs.Reply.{Says, done_reply, refused_reply};
+ghost use Rattle.top_reply.specs.Reply.{done_reply, refused_reply};
+ghost use Rattle.terrain_top.specs.Says.{Says};
 ghost use Rattle.terrain_top.specs.Effects.{OnlyMemory};
 
-use crate::stop::Stop;
 use std::alloc::Global;
+use top_reply::Stop;
 
 /// How a command ended that was not stopped.
 #[derive(Clone, Copy, Debug, PartialEq, Eq)]

@@ -1,17 +1,17 @@
 // The command `audit`.
 ghost use Rattle.std.specs.Prelude.{◌≡◌, IfOk, IfSome};
 ghost use Rattle.std.specs.FinMap as map;
-ghost use Rattle.terrain_top.specs.Audit.{audit_reply, tile_reply};
+ghost use Rattle.top_reply.specs.Audit.{audit_reply, tile_reply};
 ghost use Rattle.terrain_top.specs.Effects.{Asks, OnlyMemory};
-ghost use Rattle.terrain_top.specs.Reply.{Says};
+ghost use Rattle.terrain_top.specs.Says.{Says};
 
 use crate::answer::{Answer, done, refused};
 use crate::file::{FileRead, open_file};
-use crate::stop::Stop;
 use mesh_codec::TileView;
 use report_text::{audit_line, tile_refusal_text};
 use std::alloc::Global;
 use terrain_base::Library;
+use top_reply::Stop;
 
 /// The most bytes that a tile's file may have.
 pub(crate) const TILE_LIMIT: usize = 16_777_216;
@@ -44,6 +44,6 @@ pub(crate) fn answer_to_audit<Li: Library>(
 {
     match open_file(alloc, files, file, TILE_LIMIT)? {
         FileRead::Bytes(bytes) => read_tile(alloc, &bytes),
-        FileRead::Refused(answer) => Ok(answer),
+        FileRead::NoFile(cause) => refused(alloc, &cause),
     }
 }

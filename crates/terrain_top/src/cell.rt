@@ -1,17 +1,17 @@
 // The command `cell`.
 ghost use Rattle.std.specs.Prelude.{◌≡◌, IfOk, IfSome};
 ghost use Rattle.std.specs.FinMap as map;
-ghost use Rattle.terrain_top.specs.Cell.{cell_reply, read_reply};
+ghost use Rattle.top_reply.specs.Cell.{cell_reply, read_reply};
 ghost use Rattle.terrain_top.specs.Effects.{Asks, OnlyMemory};
-ghost use Rattle.terrain_top.specs.Reply.{Says};
+ghost use Rattle.terrain_top.specs.Says.{Says};
 
 use crate::answer::{Answer, done, refused};
 use crate::file::{FileRead, open_file};
-use crate::stop::Stop;
 use dted_cell::CellView;
 use report_text::{cell_line, cell_refusal_text};
 use std::alloc::Global;
 use terrain_base::Library;
+use top_reply::Stop;
 
 /// The most bytes that a cell's file may have.
 pub(crate) const CELL_LIMIT: usize = 33_554_432;
@@ -44,6 +44,6 @@ pub(crate) fn answer_to_cell<Li: Library>(
 {
     match open_file(alloc, files, file, CELL_LIMIT)? {
         FileRead::Bytes(bytes) => read_cell(alloc, &bytes),
-        FileRead::Refused(answer) => Ok(answer),
+        FileRead::NoFile(cause) => refused(alloc, &cause),
     }
 }

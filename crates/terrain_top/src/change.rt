@@ -1,18 +1,21 @@
 // The commands that make a database, or make it anew.
-ghost use Rattle.std.specs.Prelude.{◌≡◌, ◌≤◌, true, IfOk};
-ghost use Rattle.db_report.specs.Done.{created_line_of, rebuilt_line_of};
+ghost use Rattle.std.specs.Prelude.{◌≡◌, ◌≤◌, true, IfOk, Some};
+ghost use Rattle.terrain_base.specs.Step.{Files};
+ghost use Rattle.database.specs.State.{State};
+ghost use Rattle.db_engine.specs.Holding.{Holds};
+ghost use Rattle.top_reply.specs.Database.{init_course, rebuilt_course};
+ghost use Rattle.terrain_top.specs.EditGoes.{tiles_of};
 ghost use Rattle.terrain_top.specs.Effects.{OnlyMemory, OnStore};
-ghost use Rattle.terrain_top.specs.Reply.{done_reply};
-ghost use Rattle.terrain_top.specs.Told.{IsDoneOrTold, tiles_of};
+ghost use Rattle.terrain_top.specs.Turns.{TurnOf};
 
 use crate::answer::{Answer, done};
 use crate::engine_answer::answer_of;
-use crate::stop::Stop;
 use availability::tile_count;
 use db_engine::{Opened, init, rebuild};
 use db_report::{created_line, rebuilt_line};
 use std::alloc::Global;
 use terrain_base::{Params, Store, Work};
+use top_reply::Stop;
 
 /// How many tiles an opened database has.
 pub(crate) fn tiles_in(alloc: Global, opened: &Opened) -> Result<u64, Stop>
@@ -29,7 +32,7 @@ pub(crate) fn answer_to_init<St: Store>(
     params: Params,
     work: &mut Work,
 ) -> Result<Answer, Stop>
-    ensures says { IfOk result (IsDoneOrTold (done_reply (created_line_of params))) }
+    ensures goes { (files : Files) → St.holds store.old ≡ Some files → TurnOf (init_course params files) (St.holds store.old) (St.holds store.new) (St.log store.old) (St.log store.new) work.old work.new result }
     ensures store { OnStore (St.faults store.old) (St.faults store.new) result }
     ensures more { work.old ≤ work.new }
 {
@@ -50,7 +53,7 @@ pub(crate) fn answer_to_rebuild<St: Store>(
     work: &mut Work,
 ) -> Result<Answer, Stop>
     requires { opened.old.live ≡ true }
-    ensures says { IfOk result (IsDoneOrTold (done_reply (rebuilt_line_of (tiles_of opened.new)))) }
+    ensures goes { (s : State) (files : Files) → Holds (St.holds store.old) opened.old s → St.holds store.old ≡ Some files → TurnOf (rebuilt_course s files) (St.holds store.old) (St.holds store.new) (St.log store.old) (St.log store.new) work.old work.new result }
     ensures store { OnStore (St.faults store.old) (St.faults store.new) result }
     ensures more { work.old ≤ work.new }
 {

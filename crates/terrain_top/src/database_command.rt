@@ -1,8 +1,17 @@
 // Commands over a database, which is settled first.
-ghost use Rattle.std.specs.Prelude.{◌≡◌, ◌≤◌, true, IsErrOf};
-ghost use Rattle.terrain_top.specs.Effects.{StopHasCause};
-ghost use Rattle.terrain_top.specs.Top.{database_reads};
+ghost use Rattle.std.specs.Prelude.{◌≡◌, ◌≤◌, true, IfOk, IsErrOf, Some};
+ghost use Rattle.terrain_base.specs.Library.{LibraryFiles};
+ghost use Rattle.terrain_base.specs.Step.{Files};
+ghost use Rattle.database.specs.Opening.{Opening, OpensAs};
+ghost use Rattle.database.specs.State.{State};
+ghost use Rattle.db_engine.specs.Holding.{Holds};
 ghost use Rattle.top_words.specs.Meant.{database_meant};
+ghost use Rattle.top_reply.specs.Course.{Course, world};
+ghost use Rattle.top_reply.specs.Database.{IsDatabaseCourse, IsOpenedCourse};
+ghost use Rattle.top_reply.specs.Top.{Tells, database_reads};
+ghost use Rattle.terrain_top.specs.Comes.{Comes};
+ghost use Rattle.terrain_top.specs.Effects.{StopHasCause};
+ghost use Rattle.terrain_top.specs.Told.{HasOfDatabase, HasOpened};
 
 use crate::answer::Answer;
 use crate::change::answer_to_rebuild;
@@ -10,10 +19,10 @@ use crate::edit::answer_to_edit;
 use crate::engine_answer::answer_of;
 use crate::query::answer_to_query;
 use crate::script::answer_to_apply;
-use crate::stop::Stop;
 use db_engine::{Opened, settle};
 use std::alloc::Global;
 use terrain_base::{Library, Sink, Store, Work};
+use top_reply::Stop;
 use top_words::DatabaseCommand;
 
 // Does a command over an opened database.
@@ -27,6 +36,8 @@ fn answer_opened<St: Store, Li: Library, Si: Sink>(
     work: &mut Work,
 ) -> Result<Answer, Stop>
     requires { opened.old.live ≡ true }
+    ensures comes { (s : State) (held : Files) (library : LibraryFiles) (course : Course) → Holds (St.holds store.old) opened.old s → St.holds store.old ≡ Some held → Tells (database_reads (database_meant command.now)) (Li.holds files.old) library → IsOpenedCourse (database_meant command.now) library s held course → Comes course (world (St.holds store.old) (St.log store.old) (Si.taken out.old) work.old) (world (St.holds store.new) (St.log store.new) (Si.taken out.new) work.new) result }
+    ensures told { (s : State) (held : Files) (library : LibraryFiles) → Tells (database_reads (database_meant command.now)) (Li.holds files.old) library → IfOk result (λ answer. HasOpened (database_meant command.now) library s held) }
     ensures same { Li.holds files.new ≡ Li.holds files.old }
     ensures library { StopHasCause Stop.Input (Li.faults files.old) (Li.faults files.new) result }
     ensures reads { IsErrOf result Stop.Input → database_reads (database_meant command.now) ≡ true }
@@ -53,6 +64,8 @@ pub(crate) fn answer_to_database<St: Store, Li: Library, Si: Sink>(
     command: &DatabaseCommand<'_>,
     work: &mut Work,
 ) -> Result<Answer, Stop>
+    ensures comes { (held : Files) (library : LibraryFiles) (opening : Opening) (course : Course) → St.holds store.old ≡ Some held → Tells (database_reads (database_meant command.now)) (Li.holds files.old) library → OpensAs held opening → IsDatabaseCourse (database_meant command.now) library held opening course → Comes course (world (St.holds store.old) (St.log store.old) (Si.taken out.old) work.old) (world (St.holds store.new) (St.log store.new) (Si.taken out.new) work.new) result }
+    ensures told { (held : Files) (library : LibraryFiles) → St.holds store.old ≡ Some held → Tells (database_reads (database_meant command.now)) (Li.holds files.old) library → IfOk result (λ answer. HasOfDatabase (database_meant command.now) library held) }
     ensures same { Li.holds files.new ≡ Li.holds files.old }
     ensures library { StopHasCause Stop.Input (Li.faults files.old) (Li.faults files.new) result }
     ensures reads { IsErrOf result Stop.Input → database_reads (database_meant command.now) ≡ true }

@@ -1,19 +1,25 @@
 // Edits of the cells, as commands and as lines of scripts: first the file, then its grammar, then the database.
-ghost use Rattle.std.specs.Prelude.{◌≡◌, ◌⊎◌, ◌≤◌, true, IfErr, IfOk, IsErrOf};
+ghost use Rattle.std.specs.Prelude.{◌≡◌, ◌⊎◌, ◌≤◌, true, IfErr, IfOk, IfSome, IsErrOf};
+ghost use Rattle.std.specs.FinMap as map;
+ghost use Rattle.terrain_base.specs.Library.{LibraryFiles};
 ghost use Rattle.database.specs.declared.answer.EngineAnswer.TheVariants as engine;
-ghost use Rattle.terrain_top.specs.Effects.{Asks, OnlyMemory, OnStore, StopHasCause};
+ghost use Rattle.database.specs.State.{State};
+ghost use Rattle.db_engine.specs.Holding.{Holds};
 ghost use Rattle.db_report.specs.Done.{edited_line_of};
-ghost use Rattle.terrain_top.specs.Reply.{done_reply};
-ghost use Rattle.terrain_top.specs.Told.{IsCarriedOut, IsDoneOrTold, tiles_of};
-ghost use Rattle.terrain_top.specs.Top.{edit_reads};
 ghost use Rattle.top_words.specs.Meant.{edit_meant};
+ghost use Rattle.top_reply.specs.Edits.{edit_reply, wanted, wanted_reply};
+ghost use Rattle.top_reply.specs.File.{Bytes, cell_limit, found_in};
+ghost use Rattle.top_reply.specs.Reply.{done_reply};
+ghost use Rattle.top_reply.specs.Top.{Tells, edit_reads};
+ghost use Rattle.terrain_top.specs.EditGoes.{Answers, CellWanted, EditGoes, tiles_of};
+ghost use Rattle.terrain_top.specs.Effects.{Asks, OnlyMemory, OnStore, StopHasCause};
+ghost use Rattle.terrain_top.specs.Meant.{wanted_meant};
 
 use crate::answer::{Answer, done, refused};
 use crate::cell::CELL_LIMIT;
 use crate::change::tiles_in;
 use crate::engine_answer::answer_of;
 use crate::file::{FileRead, open_file};
-use crate::stop::Stop;
 use database::EngineAnswer;
 use db_engine::{Opened, add, remove, replace};
 use db_report::{Edited, edited_line};
@@ -21,45 +27,45 @@ use dted_cell::CellBytes;
 use report_text::cell_refusal_text;
 use std::alloc::Global;
 use terrain_base::{CellKey, Library, Square, Store, Work};
+use top_reply::Stop;
 use top_words::Edit;
 
 /// An edit whose file was read.
 #[derive(Drop)]
 pub(crate) enum Wanted {
-    /// It is refused before the database is asked.
-    Refused(Answer),
+    /// It is refused before the database is asked, by this cause.
+    Refused(String),
     Add(CellBytes),
     Replace(CellBytes),
     Remove(CellKey),
 }
 
-// The cell of a file.
+// The cell of a file, or the cause why there is none.
 #[derive(Drop)]
 enum CellRead {
     Cell(CellBytes),
-    Refused(Answer),
+    Refused(String),
 }
 
 // The cell that the bytes of a file are.
 fn check_cell(alloc: Global, bytes: Vec<u8>) -> Result<CellRead, Stop>
+    ensures wanted { IfOk result (CellWanted (Bytes bytes.items)) }
     ensures memory { OnlyMemory result }
 {
     match CellBytes::check(bytes) {
         Ok(cell) => Ok(CellRead::Cell(cell)),
-        Err(other) => {
-            let cause = cell_refusal_text(alloc, &other.refusal)?;
-            Ok(CellRead::Refused(refused(alloc, &cause)?))
-        }
+        Err(other) => Ok(CellRead::Refused(cell_refusal_text(alloc, &other.refusal)?)),
     }
 }
 
 // The cell of a file.
 fn read_cell_of<Li: Library>(alloc: Global, files: &mut Li, file: &str) -> Result<CellRead, Stop>
+    ensures wanted { IfOk result (λ read. IfSome (Li.holds files.old) (λ held. CellWanted (found_in file.now cell_limit (map.get held file.now)) read)) }
     ensures asks { Asks Li.holds Li.faults files.old files.new result }
 {
     match open_file(alloc, files, file, CELL_LIMIT)? {
         FileRead::Bytes(bytes) => check_cell(alloc, bytes),
-        FileRead::Refused(answer) => Ok(CellRead::Refused(answer)),
+        FileRead::NoFile(cause) => Ok(CellRead::Refused(cause)),
     }
 }
 
@@ -69,17 +75,18 @@ pub(crate) fn read_wanted<Li: Library>(
     files: &mut Li,
     edit: &Edit<'_>,
 ) -> Result<Wanted, Stop>
+    ensures wanted { (library : LibraryFiles) → Tells (edit_reads (edit_meant edit.now)) (Li.holds files.old) library → IfOk result (λ read. wanted_meant read ≡ wanted (edit_meant edit.now) library) }
     ensures asks { Asks Li.holds Li.faults files.old files.new result }
     ensures reads { IsErrOf result Stop.Input → edit_reads (edit_meant edit.now) ≡ true }
 {
     match *edit {
         Edit::Add { file } => match read_cell_of(alloc, files, file)? {
             CellRead::Cell(cell) => Ok(Wanted::Add(cell)),
-            CellRead::Refused(answer) => Ok(Wanted::Refused(answer)),
+            CellRead::Refused(cause) => Ok(Wanted::Refused(cause)),
         },
         Edit::Replace { file } => match read_cell_of(alloc, files, file)? {
             CellRead::Cell(cell) => Ok(Wanted::Replace(cell)),
-            CellRead::Refused(answer) => Ok(Wanted::Refused(answer)),
+            CellRead::Refused(cause) => Ok(Wanted::Refused(cause)),
         },
         Edit::Remove { key } => Ok(Wanted::Remove(key)),
     }
@@ -93,7 +100,7 @@ fn told(
     edited: Edited,
     square: Square,
 ) -> Result<Answer, Stop>
-    ensures says { IfOk result (IsDoneOrTold (done_reply (edited_line_of edited square (tiles_of opened.now)))) }
+    ensures answers { Answers (done_reply (edited_line_of edited square (tiles_of opened.now))) outcome result }
     ensures store { IsErrOf result Stop.Store → IsErrOf outcome engine.StoreFault }
     ensures only { IfErr result (λ stop. (stop ≡ Stop.Store) ⊎ (stop ≡ Stop.NoMemory)) }
 {
@@ -117,12 +124,12 @@ pub(crate) fn carry_out<St: Store>(
     work: &mut Work,
 ) -> Result<Answer, Stop>
     requires { opened.old.live ≡ true }
-    ensures says { IfOk result (IsCarriedOut wanted opened.new) }
+    ensures goes { (s : State) → Holds (St.holds store.old) opened.old s → EditGoes (wanted_reply (wanted_meant wanted) s) (St.holds store.old) (St.holds store.new) (St.log store.old) (St.log store.new) opened.new work.old work.new result }
     ensures store { OnStore (St.faults store.old) (St.faults store.new) result }
     ensures more { work.old ≤ work.new }
 {
     match wanted {
-        Wanted::Refused(answer) => Ok(answer),
+        Wanted::Refused(cause) => refused(alloc, &cause),
         Wanted::Add(cell) => {
             let outcome = add(alloc, store, opened, &cell, work);
             told(alloc, opened, outcome, Edited::Added, cell.view().square())
@@ -154,6 +161,7 @@ pub(crate) fn answer_to_edit<St: Store, Li: Library>(
     work: &mut Work,
 ) -> Result<Answer, Stop>
     requires { opened.old.live ≡ true }
+    ensures goes { (s : State) (library : LibraryFiles) → Holds (St.holds store.old) opened.old s → Tells (edit_reads (edit_meant edit.now)) (Li.holds files.old) library → EditGoes (edit_reply (edit_meant edit.now) library s) (St.holds store.old) (St.holds store.new) (St.log store.old) (St.log store.new) opened.new work.old work.new result }
     ensures same { Li.holds files.new ≡ Li.holds files.old }
     ensures library { StopHasCause Stop.Input (Li.faults files.old) (Li.faults files.new) result }
     ensures reads { IsErrOf result Stop.Input → edit_reads (edit_meant edit.now) ≡ true }

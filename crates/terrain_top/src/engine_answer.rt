@@ -2,13 +2,13 @@
 ghost use Rattle.std.specs.Prelude.{◌≡◌, ◌⊎◌, IfErr, IfOk};
 ghost use Rattle.database.specs.declared.answer.EngineAnswer.TheVariants as engine;
 ghost use Rattle.terrain_top.specs.Effects.{StopsBy};
-ghost use Rattle.terrain_top.specs.Told.{IsTold};
+ghost use Rattle.terrain_top.specs.Says.{IsTold};
 
 use crate::answer::{Answer, refused};
-use crate::stop::Stop;
 use database::EngineAnswer;
 use db_report::refusal_text;
 use std::alloc::Global;
+use top_reply::Stop;
 
 // The stop that an answer is which refuses nothing.
 fn stop_of(answer: &EngineAnswer) -> Stop

@@ -2,21 +2,21 @@
 ghost use Rattle.std.specs.Prelude.{◌≡◌, IfOk, IfSome};
 ghost use Rattle.std.specs.FinMap as map;
 ghost use Rattle.terrain_base.specs.Library.{Fetches};
+ghost use Rattle.top_reply.specs.File.{found_in};
 ghost use Rattle.terrain_top.specs.Effects.{Asks};
-ghost use Rattle.terrain_top.specs.File.{IsRefusal, Opens};
+ghost use Rattle.terrain_top.specs.Meant.{file_meant};
 
-use crate::answer::{Answer, refused};
-use crate::stop::Stop;
 use std::alloc::Global;
 use terrain_base::{DeviceFault, Fetched, Library};
+use top_reply::Stop;
 
 /// A file that was asked for.
 #[derive(Debug, Drop)]
 pub(crate) enum FileRead {
     /// Its bytes, no more than the limit.
     Bytes(Vec<u8>),
-    /// What the command comes to, since the file is absent or too long.
-    Refused(Answer),
+    /// The cause why there are none: it is absent or too long.
+    NoFile(String),
 }
 
 // The file outside.
@@ -31,26 +31,22 @@ fn fetch<Li: Library>(files: &mut Li, file: &str, limit: usize) -> Result<Fetche
     }
 }
 
-/// The bytes of a file, or the refusal of one that is absent or has more bytes than the limit.
+/// The bytes of a file, or why there are none: it is absent or has more bytes than the limit.
 pub(crate) fn open_file<Li: Library>(
     alloc: Global,
     files: &mut Li,
     file: &str,
     limit: usize,
 ) -> Result<FileRead, Stop>
-    ensures opens { IfOk result (λ read. IfSome (Li.holds files.old) (λ held. Opens file.now limit (map.get held file.now) read)) }
-    ensures refusal { IfOk result IsRefusal }
+    ensures read { IfOk result (λ read. IfSome (Li.holds files.old) (λ held. file_meant read ≡ found_in file.now limit (map.get held file.now))) }
     ensures asks { Asks Li.holds Li.faults files.old files.new result }
 {
     match fetch(files, file, limit)? {
         Fetched::Bytes(bytes) => Ok(FileRead::Bytes(bytes)),
-        Fetched::Absent => {
-            let cause = format!(in alloc; "F1 absent {file}")?;
-            Ok(FileRead::Refused(refused(alloc, &cause)?))
-        }
+        Fetched::Absent => Ok(FileRead::NoFile(format!(in alloc; "F1 absent {file}")?)),
         Fetched::TooLong => {
             let cause = format!(in alloc; "F2 too long {file} limit {limit}")?;
-            Ok(FileRead::Refused(refused(alloc, &cause)?))
+            Ok(FileRead::NoFile(cause))
         }
     }
 }

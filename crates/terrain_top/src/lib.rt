@@ -15,11 +15,10 @@ mod print;
 mod query;
 mod script;
 mod status;
-mod stop;
 #[cfg(test)]
 mod tests;
 mod top;
 mod trial;
 
-pub use status::Status;
 pub use top::run;
+pub use top_reply::Status;

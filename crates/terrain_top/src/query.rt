@@ -1,15 +1,20 @@
 // What is asked of a database.
-ghost use Rattle.std.specs.Prelude.{◌≡◌, true, ℤ, IfOk, Option};
+ghost use Rattle.std.specs.Prelude.{◌≡◌, true, ℤ, IfOk, Option, Some};
 ghost use Rattle.db_report.specs.Listing.{list_text_of};
 ghost use Rattle.db_report.specs.Tile.{IsHeightWord};
 ghost use Rattle.mesh_codec.specs.Tile.{header_in};
 ghost use Rattle.terrain_top.specs.Effects.{OnlyMemory, OnStore};
-ghost use Rattle.terrain_top.specs.Reply.{Says};
-ghost use Rattle.terrain_top.specs.Told.{deps_reply, shown_reply, text_reply};
+ghost use Rattle.terrain_top.specs.Says.{Says};
+ghost use Rattle.terrain_top.specs.Told.{HasReply};
+ghost use Rattle.terrain_base.specs.Step.{Files};
+ghost use Rattle.availability.specs.Existence.{exists_of};
+ghost use Rattle.database.specs.State.{State};
+ghost use Rattle.db_engine.specs.Holding.{Holds};
+ghost use Rattle.top_reply.specs.Query.{IsInspected, IsReplyTo, deps_reply, shown_reply};
+ghost use Rattle.top_reply.specs.Reply.{Reply, text_reply};
 
 use crate::answer::{Answer, Ending, refused};
 use crate::engine_answer::answer_of;
-use crate::stop::Stop;
 use availability::exists;
 use database::EngineAnswer;
 use db_engine::{Opened, stored_tile};
@@ -19,6 +24,7 @@ use report_text::tile_refusal_text;
 use std::alloc::Global;
 use terrain_base::{Store, TileId};
 use tile_deps::DepIndex;
+use top_reply::Stop;
 use top_words::Query;
 
 // The params and the cells.
@@ -82,6 +88,9 @@ fn answer_to_inspect<St: Store>(
     tile: TileId,
 ) -> Result<Answer, Stop>
     requires { opened.now.live ≡ true }
+    ensures says { (files : Files) (reply : Reply) → St.holds store.old ≡ Some files → IsInspected (exists_of opened.now.params.cap opened.now.rows tile) tile files reply → IfOk result (Says reply) }
+    ensures same { St.holds store.new ≡ St.holds store.old }
+    ensures quiet { St.log store.new ≡ St.log store.old }
     ensures store { OnStore (St.faults store.old) (St.faults store.new) result }
 {
     match stored_tile(store, opened, tile) {
@@ -98,6 +107,9 @@ pub(crate) fn answer_to_query<St: Store>(
     query: Query,
 ) -> Result<Answer, Stop>
     requires { opened.now.live ≡ true }
+    ensures says { (s : State) (files : Files) (reply : Reply) → Holds (St.holds store.old) opened.now s → St.holds store.old ≡ Some files → IsReplyTo query s files reply → IfOk result (Says reply) }
+    ensures same { St.holds store.new ≡ St.holds store.old }
+    ensures quiet { St.log store.new ≡ St.log store.old }
     ensures store { OnStore (St.faults store.old) (St.faults store.new) result }
 {
     match query {

@@ -1,19 +1,34 @@
 // Scripts: edits line by line.
-ghost use Rattle.std.specs.Prelude.{◌≡◌, ◌≤◌, ◌++◌, true, IfNone, IfOk, IsErrOf};
+ghost use Rattle.std.specs.Prelude.{◌≡◌, ◌⊎◌, ◌≤◌, ◌+◌, ◌<◌, ◌-◌, ◌^◌, ◌++◌, ◌∷◌, [], true, IfErr, IfNone, IfOk, IfSome, IsErrOf, OnErr, OnOk, Some, map, option_map};
+ghost use Rattle.std.specs.FinMap as finmap;
+ghost use Rattle.terrain_base.specs.Library.{LibraryFiles};
+ghost use Rattle.terrain_base.specs.Sink.{FrontTaken};
+ghost use Rattle.database.specs.State.{State};
+ghost use Rattle.db_engine.specs.Holding.{Holds};
 ghost use Rattle.db_report.specs.Done.{script_mark_of};
+ghost use Rattle.top_words.specs.Meant.{line_meant};
+ghost use Rattle.top_reply.specs.Course.{Course, world};
+ghost use Rattle.top_reply.specs.Database.{IsApplied};
+ghost use Rattle.top_reply.specs.Edits.{status_by};
+ghost use Rattle.top_reply.specs.File.{found_in, script_limit};
+ghost use Rattle.top_reply.specs.Lines.{commands_of, ended_text};
+ghost use Rattle.top_reply.specs.Reply.{Reply};
+ghost use Rattle.terrain_top.specs.Comes.{Comes};
 ghost use Rattle.terrain_top.specs.Effects.{Asks, OnlyMemory, StopHasCause};
-ghost use Rattle.terrain_top.specs.Reply.{Says};
-ghost use Rattle.terrain_top.specs.Told.{ended_reply};
+ghost use Rattle.terrain_top.specs.LinesGo.{IsCommandLine, IsLive, IsWithin, LineTold, LinesGo, ended_reply, line_wanted, tally_at};
+ghost use Rattle.terrain_top.specs.Meant.{wanted_meant};
+ghost use Rattle.terrain_top.specs.Says.{Says};
+ghost use Rattle.terrain_top.specs.Told.{HasApplied};
 
 use crate::answer::{Answer, Ending, refused};
 use crate::edit::{Wanted, carry_out, read_wanted};
 use crate::file::{FileRead, open_file};
 use crate::print::print;
-use crate::stop::Stop;
 use db_engine::Opened;
 use db_report::{NO_COMMAND, script_line, script_mark};
 use std::alloc::Global;
 use terrain_base::{Library, Sink, Store, Work};
+use top_reply::Stop;
 use top_words::{Line, script_lines};
 
 /// The most bytes that a script may have.
@@ -41,12 +56,14 @@ fn read_line<Li: Library>(
     files: &mut Li,
     line: &Line<'_>,
 ) -> Result<Option<Wanted>, Stop>
+    ensures wanted { (library : LibraryFiles) → Li.holds files.old ≡ Some library → IfOk result (λ read. option_map wanted_meant read ≡ line_wanted (line_meant line.now) library) }
     ensures asks { Asks Li.holds Li.faults files.old files.new result }
+    ensures passed { IsCommandLine (line_meant line.now) result }
 {
     match line {
         Line::Passed => Ok(None),
         Line::Change(edit) => Ok(Some(read_wanted(alloc, files, edit)?)),
-        Line::NoCommand => Ok(Some(Wanted::Refused(refused(alloc, NO_COMMAND)?))),
+        Line::NoCommand => Ok(Some(Wanted::Refused(String::from_str(alloc, NO_COMMAND)?))),
     }
 }
 
@@ -60,42 +77,78 @@ fn marked(alloc: Global, number: u64, answer: &Answer) -> Result<Vec<u8>, Stop>
     Ok(text)
 }
 
-impl Tally {
-    // The counts with one line more.
-    fn with(&self, ending: Ending) -> Tally {
-        match ending {
-            Ending::Done => Tally {
-                done: self.done.saturating_add(1),
-                refused: self.refused,
-            },
-            Ending::Refused => Tally {
-                done: self.done,
-                refused: self.refused.saturating_add(1),
-            },
-        }
+// The counts of one line.
+fn tally_of(ending: Ending) -> Tally
+    ensures { result ≡ tally_at ending }
+{
+    match ending {
+        Ending::Done => Tally {
+            done: 1,
+            refused: 0,
+        },
+        Ending::Refused => Tally {
+            done: 0,
+            refused: 1,
+        },
     }
 }
 
-// Does a line. `None` where it is passed over.
-fn do_line<St: Store, Li: Library>(
+// Prints the report of a line that is done or refused. Where the opened database may not be used any more, it is handed
+// back instead.
+fn tell_line<Si: Sink>(
+    alloc: Global,
+    out: &mut Si,
+    live: bool,
+    number: u64,
+    answer: &Answer,
+) -> Result<LinesAnswer, Stop>
+    ensures goes { LineTold live number answer.now (Si.taken out.old) (Si.taken out.new) result }
+    ensures live { IfOk result (IsLive live) }
+    ensures few { IfOk result (IsWithin 1) }
+    ensures sink { StopHasCause Stop.Output (Si.faults out.old) (Si.faults out.new) result }
+    ensures only { IfErr result (λ stop. (stop ≡ Stop.Output) ⊎ (stop ≡ Stop.NoMemory)) }
+{
+    let text = marked(alloc, number, answer)?;
+    if !live {
+        return Ok(LinesAnswer::Ended(Answer {
+            ending: Ending::Refused,
+            text,
+        }));
+    }
+    print(out, &text)?;
+    Ok(LinesAnswer::All(tally_of(answer.ending)))
+}
+
+// Does a line of this number, and prints its report, if it has one.
+fn do_line<St: Store, Li: Library, Si: Sink>(
     alloc: Global,
     store: &mut St,
     opened: &mut Opened,
     files: &mut Li,
+    out: &mut Si,
+    number: u64,
     line: &Line<'_>,
     work: &mut Work,
-) -> Result<Option<Answer>, Stop>
+) -> Result<LinesAnswer, Stop>
     requires { opened.old.live ≡ true }
-    ensures passed { IfOk result (λ answer. IfNone answer (opened.new.live ≡ true)) }
+    ensures goes { (s : State) (library : LibraryFiles) → Holds (St.holds store.old) opened.old s → Li.holds files.old ≡ Some library → LinesGo library (commands_of number (line_meant line.now ∷ [])) s (world (St.holds store.old) (St.log store.old) (Si.taken out.old) work.old) (world (St.holds store.new) (St.log store.new) (Si.taken out.new) work.new) opened.new result }
+    ensures live { IfOk result (IsLive opened.new.live) }
+    ensures few { IfOk result (IsWithin 1) }
     ensures same { Li.holds files.new ≡ Li.holds files.old }
     ensures library { StopHasCause Stop.Input (Li.faults files.old) (Li.faults files.new) result }
     ensures store { StopHasCause Stop.Store (St.faults store.old) (St.faults store.new) result }
-    ensures silent { ¬ IsErrOf result Stop.Output }
+    ensures sink { StopHasCause Stop.Output (Si.faults out.old) (Si.faults out.new) result }
     ensures more { work.old ≤ work.new }
 {
     match read_line(alloc, files, line)? {
-        Some(wanted) => Ok(Some(carry_out(alloc, store, opened, wanted, work)?)),
-        None => Ok(None),
+        Some(wanted) => {
+            let answer = carry_out(alloc, store, opened, wanted, work)?;
+            tell_line(alloc, out, opened.live(), number, &answer)
+        }
+        None => Ok(LinesAnswer::All(Tally {
+            done: 0,
+            refused: 0,
+        })),
     }
 }
 
@@ -111,30 +164,25 @@ fn do_lines<St: Store, Li: Library, Si: Sink>(
     work: &mut Work,
 ) -> Result<LinesAnswer, Stop>
     requires { opened.old.live ≡ true }
+    ensures goes { (s : State) (library : LibraryFiles) → Holds (St.holds store.old) opened.old s → Li.holds files.old ≡ Some library → LinesGo library (commands_of 1 (map line_meant lines.now)) s (world (St.holds store.old) (St.log store.old) (Si.taken out.old) work.old) (world (St.holds store.new) (St.log store.new) (Si.taken out.new) work.new) opened.new result }
     ensures same { Li.holds files.new ≡ Li.holds files.old }
     ensures library { StopHasCause Stop.Input (Li.faults files.old) (Li.faults files.new) result }
     ensures store { StopHasCause Stop.Store (St.faults store.old) (St.faults store.new) result }
     ensures sink { StopHasCause Stop.Output (Si.faults out.old) (Si.faults out.new) result }
     ensures more { work.old ≤ work.new }
 {
-    let mut tally = Tally {
-        done: 0,
-        refused: 0,
-    };
+    let mut done = 0u64;
+    let mut refused = 0u64;
     for (i, line) in lines.iter().enumerate() {
-        if let Some(answer) = do_line(alloc, store, opened, files, line, work)? {
-            let text = marked(alloc, i as u64 + 1, &answer)?;
-            if !opened.live() {
-                return Ok(LinesAnswer::Ended(Answer {
-                    ending: Ending::Refused,
-                    text,
-                }));
+        match do_line(alloc, store, opened, files, out, i as u64 + 1, line, work)? {
+            LinesAnswer::All(tally) => {
+                done += tally.done;
+                refused += tally.refused;
             }
-            print(out, &text)?;
-            tally = tally.with(answer.ending);
+            LinesAnswer::Ended(answer) => return Ok(LinesAnswer::Ended(answer)),
         }
     }
-    Ok(LinesAnswer::All(tally))
+    Ok(LinesAnswer::All(Tally { done, refused }))
 }
 
 // The last line of a script's report.
@@ -165,6 +213,8 @@ pub(crate) fn answer_to_apply<St: Store, Li: Library, Si: Sink>(
     work: &mut Work,
 ) -> Result<Answer, Stop>
     requires { opened.old.live ≡ true }
+    ensures comes { (s : State) (library : LibraryFiles) (course : Course) → Holds (St.holds store.old) opened.old s → Li.holds files.old ≡ Some library → IsApplied (found_in script.now script_limit (finmap.get library script.now)) library s course → Comes course (world (St.holds store.old) (St.log store.old) (Si.taken out.old) work.old) (world (St.holds store.new) (St.log store.new) (Si.taken out.new) work.new) result }
+    ensures told { (s : State) (library : LibraryFiles) → Li.holds files.old ≡ Some library → IfOk result (λ answer. HasApplied (found_in script.now script_limit (finmap.get library script.now)) library s) }
     ensures same { Li.holds files.new ≡ Li.holds files.old }
     ensures library { StopHasCause Stop.Input (Li.faults files.old) (Li.faults files.new) result }
     ensures store { StopHasCause Stop.Store (St.faults store.old) (St.faults store.new) result }
@@ -179,6 +229,6 @@ pub(crate) fn answer_to_apply<St: Store, Li: Library, Si: Sink>(
                 LinesAnswer::Ended(answer) => Ok(answer),
             }
         }
-        FileRead::Refused(answer) => Ok(answer),
+        FileRead::NoFile(cause) => refused(alloc, &cause),
     }
 }

@@ -1,15 +1,17 @@
 // The call that does all that the program does.
-ghost use Rattle.std.specs.Prelude.{◌≡◌, ◌≢◌, ◌≤◌, ◌↔◌, ◌⊎◌, true, false, IfOk, IfSome, IsErrOf, OnErr, Option, Some, None, option_map, map, string_bytes};
-ghost use Rattle.terrain_base.specs.Sink.{IsFront};
-ghost use Rattle.terrain_top.specs.Effects.{StopHasCause, StoreStays};
-ghost use Rattle.terrain_top.specs.Reply.{Says};
-ghost use Rattle.terrain_top.specs.Run.{Answers, Begins, FaultHasCause, Prints};
-ghost use Rattle.terrain_top.specs.Status.{IsAnswer, status_at};
-ghost use Rattle.terrain_top.specs.Top.{IsMeant, makes_tiles, reads_file, reply_to, touches_store, usage_reply, usage_text};
+ghost use Rattle.std.specs.Prelude.{◌≡◌, ◌≢◌, ◌≤◌, ◌↔◌, ◌⊎◌, true, false, IfOk, IsErrOf, Option, Some, None, ℕ, List, option_map, map, string_bytes};
+ghost use Rattle.terrain_base.specs.declared.store.Change.{Change};
+ghost use Rattle.terrain_base.specs.Library.{LibraryFiles};
+ghost use Rattle.terrain_base.specs.Step.{Files};
 ghost use Rattle.top_words.specs.Meant.{meant};
 ghost use Rattle.top_words.specs.Words as spelled;
+ghost use Rattle.top_reply.specs.Course.{Course, Goes, said, world};
+ghost use Rattle.top_reply.specs.Run.{FaultHasCause};
+ghost use Rattle.top_reply.specs.Status.{IsAnswer};
+ghost use Rattle.top_reply.specs.Top.{HasCourse, IsCourseOf, IsMeant, Tells, makes_tiles, reads_file, touches_store, usage_reply};
+ghost use Rattle.terrain_top.specs.Comes.{Comes, Passes};
+ghost use Rattle.terrain_top.specs.Effects.{StopHasCause, StoreStays};
 
-use crate::Status;
 use crate::answer::{Answer, Ending};
 use crate::audit::answer_to_audit;
 use crate::cell::answer_to_cell;
@@ -17,10 +19,10 @@ use crate::change::answer_to_init;
 use crate::database_command::answer_to_database;
 use crate::print::print;
 use crate::status::{status_of, status_of_stop};
-use crate::stop::Stop;
 use crate::trial::answer_to_trial;
 use std::alloc::Global;
 use terrain_base::{Library, Sink, Store, Work};
+use top_reply::{Status, Stop};
 use top_words::{Command, command_in};
 
 /// What is printed where the words are no command.
@@ -36,7 +38,8 @@ fn answer_to<St: Store, Li: Library, Si: Sink>(
     out: &mut Si,
     work: &mut Work,
 ) -> Result<Answer, Stop>
-    ensures says { IfOk result (λ answer. IfSome (Li.holds files.old) (λ held. IfSome (reply_to (Some (meant command.now)) held) (λ reply. Says reply answer))) }
+    ensures comes { (course : Course) → IsCourseOf (Some (meant command.now)) (St.holds store.old) (Li.holds files.old) course → Comes course (world (St.holds store.old) (St.log store.old) (Si.taken out.old) work.old) (world (St.holds store.new) (St.log store.new) (Si.taken out.new) work.new) result }
+    ensures told { (held : Files) (library : LibraryFiles) → Tells (touches_store (Some (meant command.now))) (St.holds store.old) held → Tells (reads_file (Some (meant command.now))) (Li.holds files.old) library → IfOk result (λ answer. HasCourse (Some (meant command.now)) (St.holds store.old) (Li.holds files.old)) }
     ensures quiet { touches_store (Some (meant command.now)) ≡ false → Si.taken out.new ≡ Si.taken out.old }
     ensures untouched { touches_store (Some (meant command.now)) ≡ false → StoreStays St.holds St.log St.faults store.old store.new }
     ensures idle { makes_tiles (Some (meant command.now)) ≡ false → work.new ≡ work.old }
@@ -66,8 +69,8 @@ fn run_command<St: Store, Li: Library, Si: Sink>(
     out: &mut Si,
     work: &mut Work,
 ) -> Result<Ending, Stop>
-    ensures says { IfOk result (λ ending. IfSome (Li.holds files.old) (λ held. IfSome (reply_to (Some (meant command.now)) held) (λ reply. Prints reply (status_at ending) (Si.taken out.old) (Si.taken out.new)))) }
-    ensures front { OnErr result (IfSome (Li.holds files.old) (λ held. IfSome (reply_to (Some (meant command.now)) held) (λ reply. IfSome (Si.taken out.old) (λ taken. IsFront taken reply.text (Si.taken out.new))))) }
+    ensures passes { (course : Course) → IsCourseOf (Some (meant command.now)) (St.holds store.old) (Li.holds files.old) course → Passes course (world (St.holds store.old) (St.log store.old) (Si.taken out.old) work.old) (world (St.holds store.new) (St.log store.new) (Si.taken out.new) work.new) result }
+    ensures told { (held : Files) (library : LibraryFiles) → Tells (touches_store (Some (meant command.now))) (St.holds store.old) held → Tells (reads_file (Some (meant command.now))) (Li.holds files.old) library → IfOk result (λ ending. HasCourse (Some (meant command.now)) (St.holds store.old) (Li.holds files.old)) }
     ensures untouched { touches_store (Some (meant command.now)) ≡ false → StoreStays St.holds St.log St.faults store.old store.new }
     ensures idle { makes_tiles (Some (meant command.now)) ≡ false → work.new ≡ work.old }
     ensures reads { IsErrOf result Stop.Input → reads_file (Some (meant command.now)) ≡ true }
@@ -85,8 +88,7 @@ fn run_command<St: Store, Li: Library, Si: Sink>(
 
 // Says how the program is used.
 fn run_usage<Si: Sink>(out: &mut Si) -> Status
-    ensures prints { IsAnswer result → Prints usage_reply result (Si.taken out.old) (Si.taken out.new) }
-    ensures front { IfSome (Si.taken out.old) (λ taken. IsFront taken usage_text (Si.taken out.new)) }
+    ensures goes { (held : Option Files) (log : Option (List Change)) (tiles : ℕ) → Goes (said usage_reply) (world held log (Si.taken out.old) tiles) (world held log (Si.taken out.new) tiles) result }
     ensures sink { FaultHasCause Status.OutputFault (Si.faults out.old) (Si.faults out.new) result }
     ensures only { (result ≡ Status.Usage) ⊎ (result ≡ Status.OutputFault) ⊎ (result ≡ Status.NoMemory) }
 {
@@ -105,8 +107,8 @@ fn run_meant<St: Store, Li: Library, Si: Sink>(
     out: &mut Si,
     work: &mut Work,
 ) -> Status
-    ensures answers { Answers (option_map meant command.entry) (Li.holds files.old) result (Si.taken out.old) (Si.taken out.new) }
-    ensures begins { Begins (option_map meant command.entry) (Li.holds files.old) (Si.taken out.old) (Si.taken out.new) }
+    ensures replies { (course : Course) → IsCourseOf (option_map meant command.entry) (St.holds store.old) (Li.holds files.old) course → Goes course (world (St.holds store.old) (St.log store.old) (Si.taken out.old) work.old) (world (St.holds store.new) (St.log store.new) (Si.taken out.new) work.new) result }
+    ensures told { (held : Files) (library : LibraryFiles) → Tells (touches_store (option_map meant command.entry)) (St.holds store.old) held → Tells (reads_file (option_map meant command.entry)) (Li.holds files.old) library → IsAnswer result → HasCourse (option_map meant command.entry) (St.holds store.old) (Li.holds files.old) }
     ensures usage { IsAnswer result → ((result ≡ Status.Usage) ↔ (option_map meant command.entry ≡ None)) }
     ensures never { result ≢ Status.Found }
     ensures reads { result ≡ Status.InputFault → reads_file (option_map meant command.entry) ≡ true }
@@ -143,11 +145,11 @@ pub fn run<St: Store, Li: Library, Si: Sink>(
     out: &mut Si,
     work: &mut Work,
 ) -> Status
-    // Where the library alone decides the reply, a run that went to its end has its status and printed its text.
-    ensures answers { (meaning : Option spelled.Command) → IsMeant (map string_bytes words.now) meaning → Answers meaning (Li.holds files.old) result (Si.taken out.old) (Si.taken out.new) }
+    // The run has the course of the command: it goes to its end, with the course's status, or it is stopped in a turn.
+    ensures replies { (meaning : Option spelled.Command) → IsMeant (map string_bytes words.now) meaning → (course : Course) → IsCourseOf meaning (St.holds store.old) (Li.holds files.old) course → Goes course (world (St.holds store.old) (St.log store.old) (Si.taken out.old) work.old) (world (St.holds store.new) (St.log store.new) (Si.taken out.new) work.new) result }
 
-    // Whatever stopped it, the sink took no more than some first bytes of that text.
-    ensures begins { (meaning : Option spelled.Command) → IsMeant (map string_bytes words.now) meaning → Begins meaning (Li.holds files.old) (Si.taken out.old) (Si.taken out.new) }
+    // Over objects that tell what they hold, as far as they are asked, a run that went to its end has a course.
+    ensures told { (meaning : Option spelled.Command) → IsMeant (map string_bytes words.now) meaning → (held : Files) (library : LibraryFiles) → Tells (touches_store meaning) (St.holds store.old) held → Tells (reads_file meaning) (Li.holds files.old) library → IsAnswer result → HasCourse meaning (St.holds store.old) (Li.holds files.old) }
 
     // 'Usage' is the answer exactly where the words are no command.
     ensures usage { IsAnswer result → ((result ≡ Status.Usage) ↔ IsMeant (map string_bytes words.now) None) }

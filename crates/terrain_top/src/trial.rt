@@ -1,5 +1,10 @@
 // Generated commands over a database in memory.
-ghost use Rattle.std.specs.Prelude.{◌≡◌, ◌⊎◌, ◌≤◌, true, IsErrOf, OnOk};
+ghost use Rattle.std.specs.Prelude.{◌≡◌, ◌⊎◌, ◌≤◌, ℕ, true, IfOk, IsErrOf, List, OnOk, Option};
+ghost use Rattle.terrain_base.specs.declared.store.Change.{Change};
+ghost use Rattle.terrain_base.specs.Step.{Files};
+ghost use Rattle.top_reply.specs.Course.{Course, world};
+ghost use Rattle.top_reply.specs.Trial.{IsTrialCourse};
+ghost use Rattle.terrain_top.specs.Comes.{Comes};
 ghost use Rattle.terrain_base.specs.Cause.{Rose};
 ghost use Rattle.database.specs.Answer.{HasCause};
 ghost use Rattle.database.specs.declared.answer.EngineAnswer.TheVariants as engine;
@@ -7,7 +12,6 @@ ghost use Rattle.terrain_top.specs.Effects.{OnlyMemory};
 
 use crate::answer::{Answer, done};
 use crate::engine_answer::answer_of;
-use crate::stop::Stop;
 use availability::tile_count;
 use database::EngineAnswer;
 use db_engine::{Opened, add, init, remove, replace};
@@ -16,6 +20,7 @@ use dted_cell::{CellBytes, CellTrouble};
 use dted_write::{generate, mix};
 use std::alloc::Global;
 use terrain_base::{CellKey, CellLevel, Name, Params, Square, Store, SureStore, Work};
+use top_reply::Stop;
 
 // The deepest level of a trial's database.
 const TRIAL_CAP: u8 = 9;
@@ -179,6 +184,8 @@ pub(crate) fn answer_to_trial(
     number: u64,
     work: &mut Work,
 ) -> Result<Answer, Stop>
+    ensures comes { (held : Option Files) (log : Option (List Change)) (taken : Option (List ℕ)) (course : Course) → IsTrialCourse count number course → Comes course (world held log taken work.old) (world held log taken work.new) result }
+    ensures told { IfOk result (λ answer. (course : Course) × IsTrialCourse count number course) }
     ensures memory { OnlyMemory result }
     ensures more { work.old ≤ work.new }
 {

@@ -1,5 +1,5 @@
 use Rattle.std.proofs.Common.{subst, sym, map, None, string_bytes}
-use Rattle.terrain_top.specs.Top.{IsMeant}
+use Rattle.top_reply.specs.Top.{IsMeant}
 use Rattle.terrain_top.proofs.top.run.Goals as goal
 
 pub returns-clause-usage : goal.returns-clause-usage

@@ -1,0 +1,16 @@
+use Rattle.std.proofs.Common.{refl, ap, map, ◌∙◌, inr}
+use Rattle.std.specs.FinMap.{get}
+use Rattle.top_words.specs.Meant.{line_meant}
+use Rattle.top_reply.specs.File.{Bytes, NoFile, found_in, script_limit}
+use Rattle.terrain_top.proofs.Scripts.{script_begins, script_stops, script_ends, no_script, told_script, told_none_read, found_as}
+use Rattle.terrain_top.proofs.script.answer_to_apply.Goals as goal
+
+pub returns-in_err-open_file-clause-comes : goal.returns-in_err-open_file-clause-comes
+returns-in_err-open_file-clause-comes g c = λ s library course h is applied.
+    let found = found_in c.args.script.now script_limit (get library c.args.script.now) in
+    script_begins library s course _ _ c.from_residual.result found c.in_err-open_file.field-0.0 applied refl refl refl c.in_err-open_file.ensures.asks.only c.from_residual.ensures.1
+
+pub returns-in_err-lines-in-Bytes-clause-comes : goal.returns-in_err-lines-in-Bytes-clause-comes
+returns-in_err-lines-in-Bytes-clause-comes g c = λ s library course h is applied.
+    let found = found_in c.args.script.now script_limit (get library c.args.script.now) in
+    script_begins library s course _ _ c.from_residual-in_err-lines-in-Bytes.result found _ applied refl refl refl (inr refl) c.from_residual-in_err-lines-in-Bytes.ensures.1
