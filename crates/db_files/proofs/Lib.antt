@@ -4,4 +4,5 @@ pub mod Fillings
 pub mod Parts
 pub mod RowKeys
 pub mod TileSteps
+pub mod Troubles
 pub mod Yielded

@@ -2,6 +2,7 @@
 ghost use Rattle.std.specs.Prelude.{◌≡◌, ◌≤◌, ◌+◌, [], ◌∷◌, Option};
 ghost use Rattle.terrain_base.specs.declared.name.Key.TheVariants.{Cell};
 ghost use Rattle.terrain_base.specs.Run.{Ran};
+ghost use Rattle.terrain_base.specs.Step.{held_after};
 ghost use Rattle.terrain_base.specs.Overwrite.{step_to, steps_to};
 ghost use Rattle.tile_deps.specs.Tiles.{touched};
 ghost use Rattle.cell_mosaic.specs.Summaries.{summaries_of};
@@ -10,6 +11,7 @@ ghost use Rattle.database.specs.State.{State, file_of};
 ghost use Rattle.database.specs.Commands.{last_names, closing};
 ghost use Rattle.database.specs.Answer.{HasCause, OnlyStops};
 ghost use Rattle.db_files.specs.Serving.{Closing, count_existing, bytes_of};
+ghost use Rattle.db_files.specs.Trouble.{OnlyStopsOrRowTrouble};
 
 use crate::manifest::manifest_bytes;
 use crate::tiles::put_tiles;
@@ -64,8 +66,9 @@ pub fn put_last<S: Store>(
 /// Does what is left of a command once its mark is in the store: the cell with these bytes is put, or deleted where
 /// there are none; each tile that touches its square is made or taken away; then layer and closed manifest are put, and
 /// the stage is deleted. Where the store holds all other cells of a state with these params and rows, these are the
-/// changes of that state's closing, nothing but a stop is answered in place of Ok, and at most the tiles are made that
-/// exist and touch the square.
+/// changes of that state's closing, nothing but a stop is answered in place of Ok, and no more tiles are made than
+/// exist and touch the square. Over every other store only trouble with the cell of a row may be answered besides; where
+/// the store tells its files, they show it once the cell is put.
 pub fn close<S: Store>(
     alloc: Global,
     store: &mut S,
@@ -80,6 +83,8 @@ pub fn close<S: Store>(
         → Ran (closing key s) (S.holds store.old) (S.log store.old) (S.holds store.new) (S.log store.new) result }
     ensures stop { (s : State) → Closing (S.holds store.old) params.now rows.now key (bytes_of bytes.entry) s
         → OnlyStops result }
+    ensures trouble { OnlyStopsOrRowTrouble rows.now
+        (held_after (step_to (bytes_of bytes.entry) (Cell key)) (S.holds store.old)) result }
     ensures few { (s : State) → Closing (S.holds store.old) params.now rows.now key (bytes_of bytes.entry) s
         → work.new ≤ work.old + count_existing s (touched s.params.cap key.square) }
     ensures more { work.old ≤ work.new }

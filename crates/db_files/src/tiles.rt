@@ -10,6 +10,7 @@ ghost use Rattle.database.specs.State.{State, file_of};
 ghost use Rattle.database.specs.Commands.{tile_names};
 ghost use Rattle.database.specs.Answer.{HasCause, OnlyStops};
 ghost use Rattle.db_files.specs.Serving.{Serves, GivesTiles, count_existing};
+ghost use Rattle.db_files.specs.Trouble.{OnlyStopsOrTrouble, KeepsCells};
 
 use availability::exists;
 use cell_mosaic::PostSource;
@@ -45,7 +46,8 @@ fn drop_tile<S: Store>(store: &mut S, tile: TileId) -> Result<(), EngineAnswer>
 /// Makes the two files that are held of a tile what they are to be: puts them, terrain first, where the tile exists,
 /// and deletes them where it does not. Where the source tells the cells of a state with these params and rows, they
 /// are the state's files, the cells stay told, and nothing but a stop by the store or for want of memory is answered
-/// in place of Ok; it counts a tile that exists.
+/// in place of Ok; it counts a tile that exists. Over every other store only trouble with a cell of the source may be
+/// answered besides, which the files show where they are told. The files of the source's cells stay.
 pub fn put_tile<P: PostSource, S: Store>(
     alloc: Global,
     store: &mut S,
@@ -62,6 +64,8 @@ pub fn put_tile<P: PostSource, S: Store>(
         → P.cells source.new (S.holds store.new) ≡ P.cells source.old (S.holds store.old) }
     ensures stop { (s : State) → Serves (P.cells source.old (S.holds store.old)) params.now rows.now s
         → OnlyStops result }
+    ensures trouble { OnlyStopsOrTrouble (P.shapes source.old) (S.holds store.old) result }
+    ensures keeps { KeepsCells (P.shapes source.old) (P.shapes source.new) (S.holds store.old) (S.holds store.new) }
     ensures few { (s : State) → Serves (P.cells source.old (S.holds store.old)) params.now rows.now s
         → work.new ≤ work.old + count_existing s (tile ∷ []) }
     ensures more { work.old ≤ work.new }
@@ -94,6 +98,7 @@ pub fn put_tiles<I: Iterator<Item = TileId> + Drop, P: PostSource, S: Store>(
         (S.holds store.old) (S.log store.old) (S.holds store.new) (S.log store.new) result }
     ensures stop { (s : State) (list : List tile_id.TileId) → GivesTiles I.next_gives tiles list
         → Serves (P.cells source.old (S.holds store.old)) params.now rows.now s → OnlyStops result }
+    ensures trouble { OnlyStopsOrTrouble (P.shapes source.old) (S.holds store.old) result }
     ensures few { (s : State) (list : List tile_id.TileId) → GivesTiles I.next_gives tiles list
         → Serves (P.cells source.old (S.holds store.old)) params.now rows.now s
         → work.new ≤ work.old + count_existing s list }

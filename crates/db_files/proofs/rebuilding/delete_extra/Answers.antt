@@ -1,5 +1,7 @@
 use Rattle.std.proofs.Common.{arith}
 use Rattle.terrain_base.proofs.Runs.{both_done, goes_on, stops, at_err, some_as}
+use Rattle.cell_cache.specs.Cached.{shapes_of_rows}
+use Rattle.db_files.proofs.Alike.{alike_self, alike_then}
 use Rattle.db_files.proofs.Fillings.{more_of, split_of}
 use Rattle.db_files.proofs.rebuilding.delete_extra.Goals as goal
 
@@ -14,5 +16,10 @@ loop-name-preserved g c = record {
   done = λ s p r.
       rw (more_of s c.args.names.now c.loop-name.name-index c.name-item.result c.loop-name-test.true c.name-item.is)
       (both_done (c.loop-name.invariant.done s p r) (c.in_ok-delete_if_extra.ensures.ran s p r).ok);
+  alike = alike_then (shapes_of_rows c.args.rows.now) _ _ _ c.loop-name.invariant.alike c.in_ok-delete_if_extra.ensures.alike;
   faults = omega arith;
 }
+
+pub returns-in_err-delete_if_extra-clause-alike : goal.returns-in_err-delete_if_extra-clause-alike
+returns-in_err-delete_if_extra-clause-alike g c = alike_then (shapes_of_rows c.args.rows.now) _ _ _ c.loop-name.invariant.alike c.in_err-delete_if_extra.ensures.alike
+

@@ -1,8 +1,12 @@
 use Rattle.std.proofs.Common.{arith, ap, sym, subst, ◌∙◌, ◌++◌, ◌∷◌, []}
 use Rattle.std.proofs.iter.Next.{Yields-more}
 use Rattle.terrain_base.proofs.Runs.{both_done, goes_on, stops, some_as, all_as, at_err, at_ok}
+use Rattle.std.specs.FinSet.{contains}
+use Rattle.cell_mosaic.specs.Source.{AlikeCells}
 use Rattle.db_files.specs.Serving.{GivesTiles, count_existing}
+use Rattle.db_files.proofs.Alike.{alike_then}
 use Rattle.db_files.proofs.Parts.{same_stop}
+use Rattle.db_files.proofs.Troubles.{answer_before, trouble_on}
 use Rattle.db_files.proofs.TileSteps.{tile_steps, steps_append, steps_split, count_more, count_part, serves_on}
 use Rattle.db_files.proofs.Yielded.{left_of, all_given}
 use Rattle.db_files.proofs.tiles.put_tiles.Goals as goal
@@ -15,6 +19,11 @@ loop-tile-preserved g c = record {
       let now = serves_on (c.loop-tile.invariant.told s h) h in
       all_as (sym (steps_append s c.loop-tile.yielded (c.in-Some.tile ∷ []))) (both_done (c.loop-tile.invariant.done s h) (c.in_ok-put_tile.ensures.ran s now).ok);
   told = λ s h. c.in_ok-put_tile.ensures.stays s (serves_on (c.loop-tile.invariant.told s h) h) ∙ c.loop-tile.invariant.told s h;
+  keys_stay = c.in_ok-put_tile.ensures.keeps.keys_stay ∙ c.loop-tile.invariant.keys_stay;
+  alike =
+      let keys = g.P.PostSource.shapes in
+      alike_then (keys c.args.source.now) _ _ _ c.loop-tile.invariant.alike
+      (subst (λ now. AlikeCells now (g.S.Store.holds c.loop-tile.store) (g.S.Store.holds c.put_tile.new.store)) c.loop-tile.invariant.keys_stay c.in_ok-put_tile.ensures.keeps.alike);
   few = λ s h.
       let more = count_more s c.loop-tile.yielded c.in-Some.tile in
       let so_far = c.loop-tile.invariant.few s h in
@@ -69,3 +78,8 @@ returns-clause-few g c = λ s list given_all h.
     let count = ap (count_existing s) all in
     let so_far = c.loop-tile.invariant.few s h in
     omega arith
+
+pub returns-in_err-put_tile-clause-trouble : goal.returns-in_err-put_tile-clause-trouble
+returns-in_err-put_tile-clause-trouble g c =
+    trouble_on _ _ c.from_residual.result _ c.from_residual.ensures.1
+    (answer_before (g.P.PostSource.shapes c.args.source.now) _ _ _ _ (λ key. ap (λ keys. contains keys key) c.loop-tile.invariant.keys_stay) c.loop-tile.invariant.alike c.in_err-put_tile.ensures.trouble)
