@@ -1,6 +1,7 @@
 use Rattle.std.proofs.Common.{◌∙◌}
 use Rattle.terrain_base.proofs.Runs.{at_ok, at_err, goes_on, both_done, quiet, not_yet}
 use Rattle.db_engine.specs.Holding.{no_cells}
+use Rattle.db_engine.proofs.EditTroubles.{no_rows_trouble}
 use Rattle.db_engine.proofs.Passing.{err_is}
 use Rattle.db_engine.proofs.RowLists.{none_are_rows}
 use Rattle.db_engine.proofs.Starts.{none_filling, started, full_stop}
@@ -45,3 +46,7 @@ pub returns-clause-starts : goal.returns-clause-starts
 returns-clause-starts g c = λ files is none.
     let filling = none_filling _ c.args.params _ files (c.in_ok-names.ensures.same ∙ is) (c.deref.ensures.value ∙ c.new-rows.ensures.items) in
     started c.args.params files _ is none (at_ok (both_done (quiet c.in_ok-names.ensures.same c.in_ok-names.ensures.quiet) (c.in_ok-restart.ensures.ran files (no_cells c.args.params) filling).ok))
+
+pub returns-in_err-restart-clause-kinds : goal.returns-in_err-restart-clause-kinds
+returns-in_err-restart-clause-kinds g c =
+    err_is c.from_residual-in_err-restart.result _ _ c.from_residual-in_err-restart.ensures.1 (no_rows_trouble _ _ _ (c.deref.ensures.value ∙ c.new-rows.ensures.items) c.in_err-restart.ensures.trouble)
