@@ -55,7 +55,7 @@ drop_opening s k params rows p r =
 
 -- ---- once the mark stands, what is left can be done
 
-left_at : (files : Files) (name q : Key) (bytes : List ℕ) → is_name q name ≡ false → get (insert files name bytes) q ≡ get files q
+pub left_at : (files : Files) (name q : Key) (bytes : List ℕ) → is_name q name ≡ false → get (insert files name bytes) q ≡ get files q
 left_at files name q bytes e = get-insert by_text_total files name bytes q ∙ rw e refl
 
 pub put_closing : {held held' : Option Files} {log log' : Option (List Change)} {o : Contents} (s : State) (k : CellKey) (bytes text : List ℕ) (params : Params) (rows : List Summary) → Holds held o s → AreSound (after (PutCell k bytes) s).cells

@@ -1,5 +1,6 @@
 pub mod CellRows
 pub mod EditReads
+pub mod EditTroubles
 pub mod EditsEnd
 pub mod Passing
 pub mod RowLists

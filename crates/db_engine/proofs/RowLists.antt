@@ -178,11 +178,11 @@ with_row_are_rows rows row are room =
       few = subst (λ n. n ≤ 4096) (sym (as_shorts ∙ count ∙ ap (λ n. cond (has_row rows k) n (n + 1)) long)) fits;
     })
 
-or_left : (a b : Bool) → a ≡ true → (a || b) ≡ true
+pub or_left : (a b : Bool) → a ≡ true → (a || b) ≡ true
 or_left true b e = refl
 or_left false b e = absurd (cc)
 
-or_right : (a b : Bool) → b ≡ true → (a || b) ≡ true
+pub or_right : (a b : Bool) → b ≡ true → (a || b) ≡ true
 or_right true b e = refl
 or_right false b e = e
 

@@ -1,6 +1,7 @@
 -- What a command that adds, replaces or removes a cell does.
 use Rattle.std.specs.Prelude.{◌≡◌, ◌⊎◌, ℕ, ◌+◌, ◌≤◌, List, Option, Some, None, Result, Err, OnOk, OnErr, IfSome, true, false}
 use Rattle.terrain_base.specs.declared.store.Change.{Change}
+use Rattle.terrain_base.specs.declared.summary.Summary.{Summary}
 use Rattle.terrain_base.specs.Run.{Ran}
 use Rattle.terrain_base.specs.Step.{Files}
 use Rattle.tile_deps.specs.Tiles.{touched}
@@ -9,6 +10,7 @@ use Rattle.database.specs.Answer.{OnlyStops}
 use Rattle.database.specs.Commands.{Command, Edit, after, calls, edit_of, key_of, refusal_of, OldOrNew}
 use Rattle.database.specs.State.{State, AreFiles, ReadsFor}
 use Rattle.db_files.specs.Serving.{count_existing}
+use Rattle.db_files.specs.Trouble.{OnlyStopsOrRowTrouble}
 use Rattle.db_engine.specs.Opened.{Contents, contents_of}
 use Rattle.db_engine.specs.Holding.{Holds, Stands}
 use Rattle.db_engine.specs.Rows.{rows_after}
@@ -31,6 +33,13 @@ pub record Turned {T : Type 0} (edit : Edit) (o o' : Contents) (result : Result 
   pub ok : OnOk result (o' ≡ contents_of o.params (rows_after edit o.rows) true)
   pub err : OnErr result (o'.live ≡ false)
 
+-- What is answered in place of Ok where the command is not refused: a stop, or trouble with the cell of a row behind the
+-- edit. Where the store tells its files, they show the trouble as the call begins, and the row was there then.
+pub record EditTrouble {T : Type 0} (edit : Edit) (rows : List Summary) (held : Option Files)
+    (result : Result T EngineAnswer) : Type 0 where
+  pub any : OnlyStopsOrRowTrouble (rows_after edit rows) held result
+  pub told : IfSome held (λ files. OnlyStopsOrRowTrouble rows (Some files) result)
+
 -- ---- over a store that holds the cells of a state
 
 -- a refused command changes nothing
@@ -47,7 +56,7 @@ ReadsAsOldOrNew edit s files = ReadsFor files s ⊎ ReadsFor files (after edit s
 
 -- One that is not makes its changes, or a front of them where it stops. After Ok the store holds the new state's cells;
 -- after an error its files read as the old state or as the new one. Only a stop by the store or for want of memory is
--- answered in place of Ok, and at most the tiles are made that exist in the new state and touch the square.
+-- answered in place of Ok, and no more tiles are made than exist in the new state and touch the square.
 pub record EditRan {T : Type 0} (edit : Edit) (s : State) (held held' : Option Files)
     (log log' : Option (List Change)) (o' : Contents) (work work' : ℕ) (result : Result T EngineAnswer) : Type 0 where
   pub ran : Ran (calls edit s) held log held' log' result

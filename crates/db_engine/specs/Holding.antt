@@ -44,6 +44,20 @@ IsFull (OldVersion version) files held log log' = ⊥
 IsFull StoreFault files held log log' = Unit {0}
 IsFull NoMemory files held log log' = Unit {0}
 
+-- a stop, or that a name is held
+abbrev pub IsStopOrFull : EngineAnswer → Type 0
+IsStopOrFull (CellPresent square level) = ⊥
+IsStopOrFull (CellAbsent square level) = ⊥
+IsStopOrFull DatabaseFull = ⊥
+IsStopOrFull (NotEmpty name) = Unit {0}
+IsStopOrFull (NotADatabase line) = ⊥
+IsStopOrFull (Trouble trouble) = ⊥
+IsStopOrFull (NoTile tile) = ⊥
+IsStopOrFull (TileLost name) = ⊥
+IsStopOrFull (OldVersion version) = ⊥
+IsStopOrFull StoreFault = Unit {0}
+IsStopOrFull NoMemory = Unit {0}
+
 -- a beginning leaves the files of the state, for which the store stands; a stop leaves nothing held, or files that
 -- stand for it
 pub record Starts {T E : Type 0} (s : State) (held : Option Files) (result : Result T E) : Type 0 where

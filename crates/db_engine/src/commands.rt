@@ -15,7 +15,7 @@ ghost use Rattle.database.specs.Cells.{AreRows, row_keys, has_row};
 ghost use Rattle.database.specs.Commands.{Add, Replace, Remove, PutCell, DropCell, after, calls, refusal_of};
 ghost use Rattle.database.specs.State.{State};
 ghost use Rattle.db_files.specs.Serving.{count_existing};
-ghost use Rattle.db_engine.specs.Edited.{Refused, Turned, Edited, Ends};
+ghost use Rattle.db_engine.specs.Edited.{Refused, Turned, Edited, EditTrouble, Ends};
 ghost use Rattle.db_engine.specs.Holding.{Holds, Stands};
 ghost use Rattle.db_engine.specs.Rows.{HasRoom, refusal_by_rows};
 
@@ -88,6 +88,7 @@ fn put_row<S: Store>(
     ensures few { (s : State) → Holds (S.holds store.old) opened.old s → work.new
         ≤ work.old + count_existing (after (PutCell key bytes.now) s) (touched s.params.cap key.square) }
     ensures turned { Turned (PutCell key bytes.now) opened.old opened.new result }
+    ensures trouble { EditTrouble (PutCell key bytes.now) opened.old.rows (S.holds store.old) result }
     ensures more { work.old ≤ work.new }
     ensures cause { HasCause (S.faults store.old) (S.faults store.new) result }
 {
@@ -117,6 +118,7 @@ fn put_in<S: Store>(
         + count_existing (after (PutCell (key_in cell.now) cell.now) s)
         (touched s.params.cap (key_in cell.now).square) }
     ensures turned { Turned (PutCell (key_in cell.now) cell.now) opened.old opened.new result }
+    ensures trouble { EditTrouble (PutCell (key_in cell.now) cell.now) opened.old.rows (S.holds store.old) result }
     ensures sound { IsSoundCell (key_in cell.now) cell.now }
     ensures more { work.old ≤ work.new }
     ensures cause { HasCause (S.faults store.old) (S.faults store.new) result }
@@ -139,6 +141,7 @@ fn take_out<S: Store>(
     ensures few { (s : State) → Holds (S.holds store.old) opened.old s
         → work.new ≤ work.old + count_existing (after (DropCell key) s) (touched s.params.cap key.square) }
     ensures turned { Turned (DropCell key) opened.old opened.new result }
+    ensures trouble { EditTrouble (DropCell key) opened.old.rows (S.holds store.old) result }
     ensures more { work.old ≤ work.new }
     ensures cause { HasCause (S.faults store.old) (S.faults store.new) result }
 {
@@ -153,7 +156,9 @@ fn take_out<S: Store>(
 
 /// Adds a cell. K1 exactly where its key has one, and K3 exactly where it has none and there are 4096 cells: then
 /// nothing is changed. After Ok its row is among the rows, after any other error the opened database is not live. Over
-/// a store that holds the opened cells the changes are the command's, or a front of them where it stops.
+/// a store that holds the opened cells the changes are the command's, or a front of them where it stops. Over every
+/// other store only trouble with the cell of a row may be answered besides; where the store tells its files, they show it
+/// as the call begins.
 pub fn add<S: Store>(
     alloc: Global,
     store: &mut S,
@@ -174,6 +179,8 @@ pub fn add<S: Store>(
         (S.log store.old) (S.log store.new) (S.faults store.old) (S.faults store.new) work.old work.new result }
     ensures turned { refusal_by_rows (Add (key_in cell.now) cell.now) opened.old.rows ≡ None
         → Turned (PutCell (key_in cell.now) cell.now) opened.old opened.new result }
+    ensures trouble { refusal_by_rows (Add (key_in cell.now) cell.now) opened.old.rows ≡ None
+        → EditTrouble (PutCell (key_in cell.now) cell.now) opened.old.rows (S.holds store.old) result }
     ensures more { work.old ≤ work.new }
     ensures cause { HasCause (S.faults store.old) (S.faults store.new) result }
 {
@@ -194,6 +201,7 @@ pub fn add<S: Store>(
 /// Puts a cell in the place of the one of its key; an equal cell is put too. K2 exactly where its key has none: then
 /// nothing is changed. After Ok its row is in the place of the old one, after any other error the opened database is
 /// not live. Over a store that holds the opened cells the changes are the command's, or a front of them where it stops.
+/// Over every other store only trouble with the cell of a row may be answered besides, as `add` does.
 pub fn replace<S: Store>(
     alloc: Global,
     store: &mut S,
@@ -214,6 +222,8 @@ pub fn replace<S: Store>(
         (S.log store.old) (S.log store.new) (S.faults store.old) (S.faults store.new) work.old work.new result }
     ensures turned { refusal_by_rows (Replace (key_in cell.now) cell.now) opened.old.rows ≡ None
         → Turned (PutCell (key_in cell.now) cell.now) opened.old opened.new result }
+    ensures trouble { refusal_by_rows (Replace (key_in cell.now) cell.now) opened.old.rows ≡ None
+        → EditTrouble (PutCell (key_in cell.now) cell.now) opened.old.rows (S.holds store.old) result }
     ensures more { work.old ≤ work.new }
     ensures cause { HasCause (S.faults store.old) (S.faults store.new) result }
 {
@@ -229,7 +239,8 @@ pub fn replace<S: Store>(
 
 /// Takes the cell of a key away. K2 exactly where the key has none: then nothing is changed. After Ok its row is gone,
 /// after any other error the opened database is not live. Over a store that holds the opened cells the changes are the
-/// command's, or a front of them where it stops.
+/// command's, or a front of them where it stops. Over every other store only trouble with the cell of a row may be
+/// answered besides, as `add` does.
 pub fn remove<S: Store>(
     alloc: Global,
     store: &mut S,
@@ -248,6 +259,8 @@ pub fn remove<S: Store>(
         (S.log store.old) (S.log store.new) (S.faults store.old) (S.faults store.new) work.old work.new result }
     ensures turned { refusal_by_rows (Remove key) opened.old.rows ≡ None
         → Turned (DropCell key) opened.old opened.new result }
+    ensures trouble { refusal_by_rows (Remove key) opened.old.rows ≡ None
+        → EditTrouble (DropCell key) opened.old.rows (S.holds store.old) result }
     ensures more { work.old ≤ work.new }
     ensures cause { HasCause (S.faults store.old) (S.faults store.new) result }
 {

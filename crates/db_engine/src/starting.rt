@@ -7,7 +7,8 @@ ghost use Rattle.database.specs.Answer.{HasCause, OnlyStops};
 ghost use Rattle.database.specs.Commands.{existing, rebuild_calls};
 ghost use Rattle.database.specs.State.{State};
 ghost use Rattle.db_files.specs.Serving.{count_existing};
-ghost use Rattle.db_engine.specs.Holding.{Holds, Stands, IsFull, Starts, no_cells};
+ghost use Rattle.db_files.specs.Trouble.{OnlyStopsOrRowTrouble};
+ghost use Rattle.db_engine.specs.Holding.{Holds, Stands, IsFull, IsStopOrFull, Starts, no_cells};
 ghost use Rattle.db_engine.specs.Opened.{contents_of};
 ghost use Rattle.db_engine.specs.Settling.{IsIdle, Settles, Rebuilds};
 
@@ -19,6 +20,7 @@ use terrain_base::{Params, Store, Work};
 
 /// Makes a database of no cells in a store that holds nothing. K4 exactly where a name is held, with the least: then
 /// nothing is changed. After a stop by the store or for want of memory nothing is held, or what is stands for no cells.
+/// Over every store nothing else is answered in place of Ok.
 pub fn init<S: Store>(
     alloc: Global,
     store: &mut S,
@@ -28,6 +30,7 @@ pub fn init<S: Store>(
     ensures opened { IfOk result (λ o. o ≡ contents_of params [] true) }
     ensures refused { IfErr result (λ answer. (files : Files) → S.holds store.old ≡ Some files
         → IsFull answer files (S.holds store.new) (S.log store.old) (S.log store.new)) }
+    ensures kinds { IfErr result IsStopOrFull }
     ensures empty { OnOk result ((files : Files) → S.holds store.old ≡ Some files → map.keys files ≡ []) }
     ensures ran { (files : Files) → S.holds store.old ≡ Some files → map.keys files ≡ []
         → Ran (rebuild_calls files (no_cells params))
@@ -53,7 +56,8 @@ pub fn init<S: Store>(
 /// Makes every tile anew, and deletes what is no file of the database. Nothing is refused: after an error the opened
 /// database is not live. Over a store that holds the opened cells the changes are those of a rebuilding, or a front of
 /// them where it stops by the store or for want of memory. After Ok the store stands for the cells, after a stop it
-/// holds them still.
+/// holds them still. Over every other store only trouble with the cell of a row may be answered besides; where the store
+/// tells its files, they show it as the call begins.
 pub fn rebuild<S: Store>(
     alloc: Global,
     store: &mut S,
@@ -67,6 +71,7 @@ pub fn rebuild<S: Store>(
         → Rebuilds s (S.holds store.new) opened.new result }
     ensures settles { (s : State) → Stands (S.holds store.old) opened.old s → Settles s (S.holds store.new) result }
     ensures stop { (s : State) → Holds (S.holds store.old) opened.old s → OnlyStops result }
+    ensures trouble { OnlyStopsOrRowTrouble opened.old.rows (S.holds store.old) result }
     ensures few { (s : State) → Holds (S.holds store.old) opened.old s
         → work.new ≤ work.old + count_existing s (existing s) }
     ensures ok { OnOk result (opened.new ≡ opened.old) }

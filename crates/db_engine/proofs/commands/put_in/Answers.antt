@@ -5,7 +5,7 @@ use Rattle.tile_deps.specs.Tiles.{touched}
 use Rattle.database.specs.Cells.{row_key}
 use Rattle.database.specs.Commands.{PutCell, after, calls, key_of}
 use Rattle.db_files.specs.Serving.{count_existing}
-use Rattle.db_engine.specs.Edited.{Turned}
+use Rattle.db_engine.specs.Edited.{Turned, EditTrouble}
 use Rattle.db_engine.specs.Rows.{HasRoom}
 use Rattle.db_engine.proofs.commands.put_in.Goals as goal
 
@@ -37,3 +37,9 @@ returns-clause-turned g c =
     let key = c.row_key.ensures ∙ ap row_key c.row_of-row.ensures.value in
     subst (λ edit. Turned edit c.args.opened.now c.put_row.new.opened c.put_row.result)
     (λ i. PutCell (key i) (c.bytes.ensures.value i)) c.put_row.ensures.turned
+
+pub returns-clause-trouble : goal.returns-clause-trouble
+returns-clause-trouble g c =
+    let key = c.row_key.ensures ∙ ap row_key c.row_of-row.ensures.value in
+    subst (λ edit. EditTrouble edit c.args.opened.now.rows (g.S.Store.holds c.args.store.now) c.put_row.result)
+    (λ i. PutCell (key i) (c.bytes.ensures.value i)) c.put_row.ensures.trouble

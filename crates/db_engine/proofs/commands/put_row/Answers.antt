@@ -6,6 +6,8 @@ use Rattle.std.specs.Prelude.{true}
 use Rattle.db_engine.specs.Opened.{contents_of}
 use Rattle.db_engine.specs.Rows.{HasRoom, with_row}
 use Rattle.db_engine.proofs.EditsEnd.{put_opening, put_closing, put_rows_are, sound_after}
+use Rattle.db_files.proofs.Troubles.{trouble_on}
+use Rattle.db_engine.proofs.EditTroubles.{edit_stop, put_trouble}
 use Rattle.db_engine.proofs.Passing.{same_stop, turned_off}
 use Rattle.db_engine.proofs.commands.put_row.Goals as goal
 
@@ -102,3 +104,19 @@ pub returns-clause-turned : goal.returns-clause-turned
 returns-clause-turned g c =
     let list = c.in_ok-rows.ensures.value ∙ (λ i. with_row ((c.summaries.ensures.value ∙ ap (λ o. o.rows) c.begin.ensures) i) (c.requires.row i)) in
     record { ok = c.end.ensures ∙ (λ i. contents_of ((ap (λ o. o.params) c.begin.ensures) i) (list i) true); err = tt }
+
+pub returns-in_err-rows-clause-trouble : goal.returns-in_err-rows-clause-trouble
+returns-in_err-rows-clause-trouble g c = edit_stop _ _ _ c.from_residual.result (same_stop c.from_residual.result _ c.from_residual.ensures.1 tt)
+
+pub returns-in_err-put_marked-clause-trouble : goal.returns-in_err-put_marked-clause-trouble
+returns-in_err-put_marked-clause-trouble g c =
+    edit_stop _ _ _ c.from_residual-in_err-put_marked.result (same_stop c.from_residual-in_err-put_marked.result _ c.from_residual-in_err-put_marked.ensures.1 c.in_err-put_marked.ensures.stop)
+
+pub returns-in_err-close-clause-trouble : goal.returns-in_err-close-clause-trouble
+returns-in_err-close-clause-trouble g c =
+    let list = c.in_ok-rows.ensures.value ∙ (λ i. with_row ((c.summaries.ensures.value ∙ ap (λ o. o.rows) c.begin.ensures) i) (c.requires.row i)) in
+    put_trouble c.args.key c.args.bytes.now _ c.args.opened.now.rows c.deref-2.result.now c.from_residual-in_err-close.result c.requires.sound (c.deref-2.ensures.value ∙ list) c.in_ok-put_marked.ensures.ran.ok
+    (trouble_on _ _ c.from_residual-in_err-close.result _ c.from_residual-in_err-close.ensures.1 c.in_err-close.ensures.trouble)
+
+pub returns-clause-trouble : goal.returns-clause-trouble
+returns-clause-trouble g c = edit_stop _ _ _ _ tt

@@ -7,6 +7,8 @@ use Rattle.db_engine.specs.Opened.{contents_of}
 use Rattle.db_engine.proofs.RowLists.{has_row-keys}
 use Rattle.db_engine.specs.Rows.{without_row}
 use Rattle.db_engine.proofs.EditsEnd.{drop_opening, drop_closing, drop_rows_are, sound_after}
+use Rattle.db_files.proofs.Troubles.{trouble_on}
+use Rattle.db_engine.proofs.EditTroubles.{edit_stop, drop_trouble}
 use Rattle.db_engine.proofs.Passing.{same_stop, turned_off}
 use Rattle.db_engine.proofs.commands.take_out.Goals as goal
 
@@ -98,3 +100,19 @@ pub returns-clause-turned : goal.returns-clause-turned
 returns-clause-turned g c =
     let list = c.in_ok-rows.ensures.value ∙ ap (λ rows. without_row rows c.args.key) (c.summaries.ensures.value ∙ ap (λ o. o.rows) c.begin.ensures) in
     record { ok = c.end.ensures ∙ (λ i. contents_of ((ap (λ o. o.params) c.begin.ensures) i) (list i) true); err = tt }
+
+pub returns-in_err-rows-clause-trouble : goal.returns-in_err-rows-clause-trouble
+returns-in_err-rows-clause-trouble g c = edit_stop _ _ _ c.from_residual.result (same_stop c.from_residual.result _ c.from_residual.ensures.1 tt)
+
+pub returns-in_err-put_mark-clause-trouble : goal.returns-in_err-put_mark-clause-trouble
+returns-in_err-put_mark-clause-trouble g c =
+    edit_stop _ _ _ c.from_residual-in_err-put_mark.result (same_stop c.from_residual-in_err-put_mark.result _ c.from_residual-in_err-put_mark.ensures.1 c.in_err-put_mark.ensures.stop)
+
+pub returns-in_err-close-clause-trouble : goal.returns-in_err-close-clause-trouble
+returns-in_err-close-clause-trouble g c =
+    let list = c.in_ok-rows.ensures.value ∙ ap (λ rows. without_row rows c.args.key) (c.summaries.ensures.value ∙ ap (λ o. o.rows) c.begin.ensures) in
+    drop_trouble c.args.key _ c.args.opened.now.rows c.deref-2.result.now c.from_residual-in_err-close.result (c.deref-2.ensures.value ∙ list) c.in_ok-put_mark.ensures.ran.ok
+    (trouble_on _ _ c.from_residual-in_err-close.result _ c.from_residual-in_err-close.ensures.1 c.in_err-close.ensures.trouble)
+
+pub returns-clause-trouble : goal.returns-clause-trouble
+returns-clause-trouble g c = edit_stop _ _ _ _ tt

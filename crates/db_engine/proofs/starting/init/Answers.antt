@@ -1,6 +1,7 @@
 use Rattle.std.proofs.Common.{◌∙◌}
 use Rattle.terrain_base.proofs.Runs.{at_ok, at_err, goes_on, both_done, quiet, not_yet}
 use Rattle.db_engine.specs.Holding.{no_cells}
+use Rattle.db_engine.proofs.EditTroubles.{no_rows_trouble}
 use Rattle.db_engine.proofs.Passing.{err_is}
 use Rattle.db_engine.proofs.RowLists.{none_are_rows}
 use Rattle.db_engine.proofs.Starts.{none_filling, started, full_stop}
@@ -55,3 +56,7 @@ pub returns-clause-few : goal.returns-clause-few
 returns-clause-few g c = λ files is none.
     let filling = none_filling _ c.args.params _ files (c.in_ok-names.ensures.same ∙ is) (c.deref.ensures.value ∙ c.new-rows.ensures.items) in
     c.in_ok-restart.ensures.few files (no_cells c.args.params) filling
+
+pub returns-in_err-restart-clause-kinds : goal.returns-in_err-restart-clause-kinds
+returns-in_err-restart-clause-kinds g c =
+    err_is c.from_residual-in_err-restart.result _ _ c.from_residual-in_err-restart.ensures.1 (no_rows_trouble _ _ _ (c.deref.ensures.value ∙ c.new-rows.ensures.items) c.in_err-restart.ensures.trouble)

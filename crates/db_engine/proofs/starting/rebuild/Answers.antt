@@ -1,6 +1,8 @@
 use Rattle.std.proofs.Common.{sym, ap, subst, ◌∙◌}
 use Rattle.database.specs.Cells.{AreRows}
 use Rattle.terrain_base.proofs.Runs.{at_ok, at_err}
+use Rattle.db_files.specs.Trouble.{OnlyStopsOrRowTrouble}
+use Rattle.db_files.proofs.Troubles.{trouble_on}
 use Rattle.db_engine.specs.Opened.{contents_of}
 use Rattle.db_engine.proofs.Passing.{same_stop}
 use Rattle.db_engine.proofs.Starts.{holds_filling, rebuilds_of, rebuilds_stop, rebuilt}
@@ -66,3 +68,9 @@ returns-clause-few g c = λ s h.
 
 pub returns-clause-ok : goal.returns-clause-ok
 returns-clause-ok g c = c.go_on.ensures ∙ (λ i. contents_of (c.begin.ensures i).params (c.begin.ensures i).rows ((sym c.requires) i))
+
+pub returns-in_err-restart-clause-trouble : goal.returns-in_err-restart-clause-trouble
+returns-in_err-restart-clause-trouble g c =
+    let rows = c.summaries.ensures.value ∙ ap (λ o. o.rows) c.begin.ensures in
+    subst (λ list. OnlyStopsOrRowTrouble list (g.S.Store.holds c.args.store.now) c.from_residual.result) rows
+    (trouble_on _ _ c.from_residual.result _ c.from_residual.ensures.1 c.in_err-restart.ensures.trouble)
