@@ -1,5 +1,5 @@
 -- Trouble behind the mark of a command, told of the files as the command began.
-use Rattle.std.proofs.Common.{◌≡◌, Bool, true, false, ◌||◌, not, cond, List, [], ◌∷◌, ◌++◌, Option, Some, None, Result, Ok, Err, refl, sym, ap, subst, ◌∙◌, ◌⊎◌, inl, inr, ⊎_elim, ℕ}
+use Rattle.std.proofs.Common.{◌≡◌, Bool, true, false, ◌||◌, not, cond, List, [], ◌∷◌, Option, Some, None, Result, refl, sym, ap, subst, ◌∙◌, ◌⊎◌, inl, inr, ⊎_elim, ℕ}
 use Rattle.std.specs.Prelude.{IfSome}
 use Rattle.std.specs.FinMap.{get, insert, get-insert, get-remove}
 use Rattle.std.specs.FinSet.{contains}
@@ -7,7 +7,6 @@ use Rattle.std.specs.List.{filter, list_any}
 use Rattle.std.specs.Ordering.{eq_by_cmp}
 use Rattle.std.proofs.lemmas.List.Folds.{list_any-append}
 use Rattle.terrain_base.specs.declared.cell_key.CellKey.{CellKey}
-use Rattle.terrain_base.specs.declared.name.Key.{Key}
 use Rattle.terrain_base.specs.declared.name.Key.TheVariants.{Manifest, Stage, Cell}
 use Rattle.terrain_base.specs.declared.store.Change.{Change}
 use Rattle.terrain_base.specs.declared.summary.Summary.{Summary}
@@ -18,18 +17,17 @@ use Rattle.dted_cell.specs.declared.trouble.CellTrouble.{CellTrouble}
 use Rattle.dted_cell.specs.declared.trouble.CellTrouble.TheVariants as trouble
 use Rattle.dted_cell.specs.Trouble.{IsCellAt, ShowsAt}
 use Rattle.cell_mosaic.specs.Cells.{Shapes, IsSoundCell}
-use Rattle.cell_mosaic.specs.Source.{IsTroubleWith, ShowsNamed}
 use Rattle.cell_mosaic.specs.Summaries.{summary_of}
 use Rattle.cell_cache.specs.Cached.{shapes_of_rows}
 use Rattle.cell_cache.proofs.Rows.{known_rows}
-use Rattle.database.specs.Answer.{IsStop, OnlyStops}
+use Rattle.database.specs.Answer.{OnlyStops}
 use Rattle.database.specs.Cells.{row_key, has_row}
 use Rattle.database.specs.Commands.{Edit, PutCell, DropCell}
 use Rattle.database.specs.declared.answer.EngineAnswer.{EngineAnswer}
 use Rattle.database.specs.declared.answer.EngineAnswer.TheVariants as answer
 use Rattle.database.proofs.Given.{by_text_total}
 use Rattle.database.proofs.Tests.{is_name, name_other, name_self, key_same, false_of}
-use Rattle.db_files.specs.Trouble.{IsShownTrouble, IsStopOrTrouble, OnlyStopsOrTrouble, OnlyStopsOrRowTrouble}
+use Rattle.db_files.specs.Trouble.{IsShownTrouble, IsStopOrTrouble, OnlyStopsOrRowTrouble}
 use Rattle.db_files.proofs.Troubles.{stops_only, result_by}
 use Rattle.db_engine.specs.Edited.{EditTrouble}
 use Rattle.db_engine.specs.Holding.{IsStopOrFull}

@@ -7,9 +7,13 @@ mod opened;
 mod rows;
 mod settling;
 mod starting;
+#[cfg(test)]
+mod stop_tests;
 mod stored;
 #[cfg(test)]
 mod tests;
+#[cfg(test)]
+mod watched_tests;
 
 pub use commands::{add, remove, replace};
 pub use opened::Opened;

@@ -6,14 +6,12 @@ use dted_cell::CellBytes;
 use dted_write::generate;
 use std::alloc::Global;
 use std::test::Fail as Failed;
-use terrain_base::{
-    CellKey, CellLevel, Fail, MemStore, Name, Params, Square, Store, SureStore, TileId, Work,
-};
+use terrain_base::{CellKey, CellLevel, Name, Params, Square, Store, SureStore, TileId, Work};
 
 // Databases to level 1 of no cells, and of one of the number 5 or 6.
-const NONE: u64 = 0x53224d24381d6149;
+pub(crate) const NONE: u64 = 0x53224d24381d6149;
 
-const FIVE: u64 = 0x56d3fefe11daa841;
+pub(crate) const FIVE: u64 = 0x56d3fefe11daa841;
 
 const SIX: u64 = 0x6635b3bf18dfbb6b;
 
@@ -27,7 +25,7 @@ fn add_bytes(sum: u64, bytes: &[u8]) -> u64 {
 }
 
 // The sum of each name with its bytes, in the order of names.
-fn sum_of<S: Store>(store: &mut S) -> Result<u64, Failed> {
+pub(crate) fn sum_of<S: Store>(store: &mut S) -> Result<u64, Failed> {
     let mut sum: u64 = 0xcbf29ce484222325;
     for name in &store.names()? {
         let bytes = store.get(name)?.ok_or("a name that is not held")?;
@@ -37,14 +35,14 @@ fn sum_of<S: Store>(store: &mut S) -> Result<u64, Failed> {
 }
 
 // The key of level 0 at no degrees north and no degrees east.
-fn key() -> Result<CellKey, Failed> {
+pub(crate) fn key() -> Result<CellKey, Failed> {
     let square = Square::of(180, 90).ok_or("square")?;
     let level = CellLevel::Zero;
     Ok(CellKey { square, level })
 }
 
 // The cell of a number under this key.
-fn cell(alloc: Global, number: u64) -> Result<CellBytes, Failed> {
+pub(crate) fn cell(alloc: Global, number: u64) -> Result<CellBytes, Failed> {
     let key = key()?;
     let bytes = generate(alloc, number, key.square, key.level)?;
     let cell = CellBytes::check(bytes).map_err(|refused| refused.refusal)?;
@@ -110,60 +108,5 @@ fn the_stored_files_of_a_tile_are_told(rt: HostRuntime) -> Result<(), Failed> {
         stored_tile(&mut store, &opened, tile).err(),
         Some(EngineAnswer::TileLost { name })
     );
-    Ok(())
-}
-
-// A cell is added where a call on the store fails, and the store is settled. What is held then, in sum.
-fn sum_after_a_stop(alloc: Global, fail: Fail) -> Result<u64, Failed> {
-    let params = Params::of(1, 0).ok_or("params")?;
-    let mut store = MemStore::new(alloc, &[fail])?;
-    let mut work = Work::new();
-    let mut opened = init(alloc, &mut store, params, &mut work)?;
-    let stopped = add(alloc, &mut store, &mut opened, &cell(alloc, 5)?, &mut work);
-    if stopped != Err(EngineAnswer::StoreFault) || opened.live() {
-        return Ok(0);
-    }
-    settle(alloc, &mut store, &mut work)?;
-    sum_of(&mut store)
-}
-
-#[test]
-fn a_cell_that_was_marked_is_put_by_settling(rt: HostRuntime) -> Result<(), Failed> {
-    for (call, applied, sum) in [
-        (10, true, NONE),
-        (11, false, NONE),
-        (11, true, FIVE),
-        (13, false, FIVE),
-    ] {
-        assert_eq!(rt; sum_after_a_stop(rt.alloc(), Fail { call, applied })?, sum);
-    }
-    Ok(())
-}
-
-// A cell is replaced where a call on the store fails, and the store is settled. What is held then, in sum.
-fn sum_after_a_stopped_replace(alloc: Global, fail: Fail) -> Result<u64, Failed> {
-    let params = Params::of(1, 0).ok_or("params")?;
-    let mut store = MemStore::new(alloc, &[fail])?;
-    let mut work = Work::new();
-    let mut opened = init(alloc, &mut store, params, &mut work)?;
-    add(alloc, &mut store, &mut opened, &cell(alloc, 5)?, &mut work)?;
-    let stopped = replace(alloc, &mut store, &mut opened, &cell(alloc, 6)?, &mut work);
-    if stopped != Err(EngineAnswer::StoreFault) || opened.live() {
-        return Ok(0);
-    }
-    settle(alloc, &mut store, &mut work)?;
-    sum_of(&mut store)
-}
-
-#[test]
-fn a_stop_at_any_call_of_a_replace_leaves_the_old_or_the_new_files(
-    rt: HostRuntime,
-) -> Result<(), Failed> {
-    for call in 29..48u64 {
-        for applied in [false, true] {
-            let sum = sum_after_a_stopped_replace(rt.alloc(), Fail { call, applied })?;
-            assert!(rt; sum == FIVE || sum == SIX);
-        }
-    }
     Ok(())
 }

@@ -1,7 +1,7 @@
 use Rattle.std.proofs.Common.{arith}
 use Rattle.terrain_base.proofs.Runs.{both_done, goes_on, stops, at_err, some_as}
 use Rattle.cell_cache.specs.Cached.{shapes_of_rows}
-use Rattle.db_files.proofs.Alike.{alike_self, alike_then}
+use Rattle.db_files.proofs.Alike.{alike_then}
 use Rattle.db_files.proofs.Fillings.{more_of, split_of}
 use Rattle.db_files.proofs.rebuilding.delete_extra.Goals as goal
 
@@ -22,4 +22,3 @@ loop-name-preserved g c = record {
 
 pub returns-in_err-delete_if_extra-clause-alike : goal.returns-in_err-delete_if_extra-clause-alike
 returns-in_err-delete_if_extra-clause-alike g c = alike_then (shapes_of_rows c.args.rows.now) _ _ _ c.loop-name.invariant.alike c.in_err-delete_if_extra.ensures.alike
-
