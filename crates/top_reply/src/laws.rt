@@ -1,6 +1,7 @@
-//! What courses and states are held to. Each function does nothing, or calls the laws that it rests on: its contract is a
-//! law.
-ghost use Rattle.top_reply.specs.Laws.{EachHasCourse, EachPasses, FilesAreGood, OneCourse, OneState, RunsChain, ValidIsDone};
+//! What courses and states are held to. Each function does nothing, or calls the laws that it rests on: its contract is
+//! a law.
+ghost use Rattle.top_reply.specs.Laws.{EachHasCourse, EachPasses, FilesAreGood, OneCourse, OneState, RunsChain};
+ghost use Rattle.top_reply.specs.Laws.{ValidIsDone};
 
 /// A command has one course.
 pub fn one_course()
@@ -33,7 +34,8 @@ pub fn valid_is_done()
     ensures { ValidIsDone }
 {}
 
-/// From a beginning on, after any number of answered runs, the files are those of the state after all accepted commands.
+/// From a beginning on, after any number of answered runs, the files are those of the state after all accepted
+/// commands.
 pub fn runs_chain()
     ensures { RunsChain }
 {
