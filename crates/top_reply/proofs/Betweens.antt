@@ -64,7 +64,8 @@ stand_still s files now stands (inl same) = subst (λ f. StandsFor f s) (sym sam
 stand_still s files now stands (inr still) = still
 
 read_still : (s : State) (files now : Files) → ReadClosed files s → (now ≡ files) ⊎ StandsFor now s → ReadsFor now s
-read_still s files now reads (inl same) = record { mark = Closed; reads = subst (λ f. ReadsAs f s Closed) (sym same) reads }
+read_still s files now reads (inl same) =
+    record { mark = Closed; reads = subst (λ f. ReadsAs f s Closed) (sym same) reads }
 read_still s files now reads (inr still) = record { mark = still.mark; reads = still.stands.reads }
 
 -- of files that stand for the state
@@ -74,7 +75,8 @@ stand_kept = record {
   state = λ s files ends. ends.1;
   edit = λ c s files state ends.
       let stands = files_stand s files ends.1 ends.0 in
-      let ended : AreSettled (all_changed (calls c s) files) (after c s) = (command_ends c s files state stands, state) in (
+      let ended : AreSettled (all_changed (calls c s) files) (after c s) =
+      (command_ends c s files state stands, state) in (
         record {
           begins = record { mark = Closed; stands = stands };
           fronts = command_stands c s files state stands;
@@ -309,8 +311,8 @@ module _ (Is Ends : Files → State → Type 0) (kept : AreKept Is Ends) where
   script_path library holds lines s files ends =
       let text = ended_text (done_in library lines s) (refused_in library lines s) in
       let states = states_of library lines s in
-      path_append Is Ends (turns_of library lines s) (text_turn text ∷ []) states (after_lines library lines s ∷ []) s files
-      (lines_path library holds lines s files ends)
+      path_append Is Ends (turns_of library lines s) (text_turn text ∷ []) states (after_lines library lines s ∷ []) s
+      files (lines_path library holds lines s files ends)
       (λ now ended. subst (λ t. Path Is Ends now (last_of s states) (text_turn text ∷ []) (t ∷ []))
       (lines_end library lines s) (text_path text (last_of s states) now ended))
 
@@ -346,7 +348,8 @@ module _ (Is Ends : Files → State → Type 0) (kept : AreKept Is Ends) where
       (ap (λ (c : Course). c.turns) is) passes
       (wanted_leads (wanted edit library) s (edit_sound edit library holds) files ends)
   opened_path (Apply script) library holds s files course states is passes ends =
-      applied_path (found_in script script_limit (get library script)) library holds s files course states is passes ends
+      applied_path (found_in script script_limit (get library script)) library holds s files course states is passes
+      ends
   opened_path Rebuild library holds s files course states is passes ends =
       path_as (rebuilt_course s files).turns course.turns (s ∷ []) states s files (ap (λ (c : Course). c.turns) is)
       passes (kept.rebuild s files ends)

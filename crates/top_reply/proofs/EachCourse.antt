@@ -59,7 +59,7 @@ has_applied (Bytes bytes) library s =
     let lines = has_lines bytes in (_, record { lines = lines.0; are = lines.1; course_is = refl })
 has_applied (NoFile cause) library s = (_, refl)
 
-has_opened : (command : DatabaseCommand) (library : LibraryFiles) (s : State) (files : Files)
+pub has_opened : (command : DatabaseCommand) (library : LibraryFiles) (s : State) (files : Files)
     → (course : Course) × IsOpenedCourse command library s files course
 has_opened (Ask query) library s files =
     let reply = has_reply query s files in

@@ -55,7 +55,8 @@ first_is : (P Q : Files → Type 0) (held : Option Files) → IsSomeAnd held P �
 first_is P Q None holds = absurd holds
 first_is P Q (Some files) holds = inl holds
 
-second_is : (P Q : Files → Type 0) (held : Option Files) → IsSomeAnd held Q → IsSomeAnd held (λ files. P files ⊎ Q files)
+second_is : (P Q : Files → Type 0) (held : Option Files) → IsSomeAnd held Q
+    → IsSomeAnd held (λ files. P files ⊎ Q files)
 second_is P Q None holds = absurd holds
 second_is P Q (Some files) holds = inr holds
 
@@ -80,14 +81,14 @@ module _ (Is Ends : Files → State → Type 0) where
     input : e ≡ stop.Input → IsSomeAnd held' (λ files. Is files s)
     output : e ≡ stop.Output → IsSomeAnd held' (λ files. Is files t)
 
-  in_steps : (turn : Turn) (files : Files) (s t : State) (w w' : World) → Leads Is turn.steps files s t → w.held ≡ Some files
-      → SomeDone turn.steps w.held w.log w'.held w'.log → IsSomeAnd w'.held (λ now. Is now s ⊎ Is now t)
+  in_steps : (turn : Turn) (files : Files) (s t : State) (w w' : World) → Leads Is turn.steps files s t
+      → w.held ≡ Some files → SomeDone turn.steps w.held w.log w'.held w'.log → IsSomeAnd w'.held (λ now. Is now s ⊎ Is now t)
   in_steps turn files s t w w' leads is some =
       some_is (λ now. Is now s ⊎ Is now t) w'.held (all_changed (take some.done turn.steps) files)
       (told_after (take some.done turn.steps) w.held w'.held files is some.held) (leads.fronts some.done some.done_of)
 
-  all_steps : (turn : Turn) (files : Files) (s t : State) (w w' : World) → Leads Is turn.steps files s t → w.held ≡ Some files
-      → AllDone turn.steps w.held w.log w'.held w'.log → IsSomeAnd w'.held (λ now. Is now t)
+  all_steps : (turn : Turn) (files : Files) (s t : State) (w w' : World) → Leads Is turn.steps files s t
+      → w.held ≡ Some files → AllDone turn.steps w.held w.log w'.held w'.log → IsSomeAnd w'.held (λ now. Is now t)
   all_steps turn files s t w w' leads is all =
       some_is (λ now. Is now t) w'.held (all_changed turn.steps files)
       (told_after turn.steps w.held w'.held files is all.held) leads.ends
@@ -136,7 +137,8 @@ module _ (Is Ends : Files → State → Type 0) where
   at_turn [] turn later s (t ∷ states) files path = path.0
   at_turn (first ∷ before) turn later s [] files path = absurd path
   at_turn (first ∷ before) turn later s (t ∷ states) files path =
-      subst (λ now. Leads Is turn.steps now (state_at t states (length before)) (state_at t states (suc (length before))))
+      subst (λ now. Leads Is turn.steps now (state_at t states (length before))
+      (state_at t states (suc (length before))))
       (sym (changed_append first.steps (steps_of before) files))
       (at_turn before turn later t states (all_changed first.steps files) path.1)
 
@@ -162,8 +164,8 @@ module _ (Is Ends : Files → State → Type 0) where
 
   stopped_at : (e : Stop) (before : List Turn) (turn : Turn) (later : List Turn) (steps : List Step) (tiles : ℕ)
       (rest : List Turn) (s : State) (states : List State) (files : Files) (w mid w' : World)
-      → quiet_turn steps tiles ∷ rest ≡ before ++ turn ∷ later → Path Is Ends files s (before ++ turn ∷ later) (s ∷ states)
-      → w.held ≡ Some files → TurnsDone before w mid → StopsAt e turn mid w'
+      → quiet_turn steps tiles ∷ rest ≡ before ++ turn ∷ later
+      → Path Is Ends files s (before ++ turn ∷ later) (s ∷ states) → w.held ≡ Some files → TurnsDone before w mid → StopsAt e turn mid w'
       → Stopped Is e s states (length before - 1) w'.held
   stopped_at e [] turn later steps tiles rest s states files w mid w' parts path is done at =
       let r = at_stop e [] turn later s (s ∷ states) files w mid w' path is done at in

@@ -1,5 +1,5 @@
 -- What follows of a run from its course.
-use Rattle.std.proofs.Common.{◌≡◌, ◌⊎◌, Bool, true, false, List, [], ◌∷◌, take, Option, Some, None, refl, sym, ap, subst, ◌∙◌, inl, inr}
+use Rattle.std.proofs.Common.{◌≡◌, ◌⊎◌, List, [], ◌∷◌, take, Option, Some, None, refl, sym, ap, subst, ◌∙◌, inl, inr}
 use Rattle.std.specs.Prelude.{IsSomeAnd}
 use Rattle.std.specs.FinMap.{empty, keys}
 use Rattle.terrain_base.specs.declared.params.Params.{Params}
@@ -8,11 +8,10 @@ use Rattle.terrain_base.specs.Overwrite.{all_changed}
 use Rattle.terrain_base.specs.Step.{Files}
 use Rattle.manifest_lines.specs.declared.state.State.TheVariants.{Closed}
 use Rattle.db_manifest.specs.Manifest.{ManifestState}
-use Rattle.top_words.specs.Words.{Add, Replace, Remove, DatabaseCommand, Ask, Change, Apply, Rebuild, Command, Init, Database, ReadCell, Audit, Trial}
+use Rattle.top_words.specs.Words.{DatabaseCommand, Command, Init, Database, ReadCell, Audit, Trial}
 use Rattle.database.specs.Commands.{rebuild_calls, settling}
-use Rattle.database.specs.Opening.{Opens, OpensAs}
+use Rattle.database.specs.Opening.{Opens}
 use Rattle.database.specs.State.{State, AreFiles, ReadsAs, ReadsFor, StandsFor}
-use Rattle.database.proofs.Openings.{one_opening}
 use Rattle.database.proofs.Starting.{calls_end, calls_stand, files_stand}
 use Rattle.db_engine.specs.Holding.{no_cells}
 use Rattle.db_engine.specs.Settling.{count_settling}
@@ -21,27 +20,22 @@ use Rattle.top_reply.specs.declared.status.Status.{Status}
 use Rattle.top_reply.specs.declared.status.Status.TheVariants as status
 use Rattle.top_reply.specs.declared.stop.Stop.{Stop}
 use Rattle.top_reply.specs.Course.{Answered, Course, Goes, GoesBy, StopsIn, World, quiet_turn}
-use Rattle.top_reply.specs.Database.{IsDatabaseCourse, IsOpenedCourse, after_settling, created_turn, init_by}
+use Rattle.top_reply.specs.Database.{IsOpenedCourse, after_settling, created_turn, init_by}
 use Rattle.top_reply.specs.File.{HoldsBytes}
 use Rattle.top_reply.specs.Laws.{AllArrive, AllArrived, FilesAreGood, Ordered}
 use Rattle.top_reply.specs.Passed.{StopsBetween}
 use Rattle.top_reply.specs.Run.{Headline, HoldsFilesOf, IsFrontOf, OnStop, OnStopBy, StopsFrom, StopsReading, StopsStanding}
 use Rattle.top_reply.specs.Status.{IsAnswer, stop_of}
-use Rattle.top_reply.specs.Top.{HasCourse, IsCourseOf, Tells, database_reads, reads_file, touches_store}
+use Rattle.top_reply.specs.Top.{IsCourseOf, Tells, database_reads}
 use Rattle.top_reply.proofs.Betweens.{AreKept, AreSettled, ReadClosed, passage, read_kept, settled_path, settling_stands, settling_still_reads, stand_kept}
 use Rattle.top_reply.proofs.Courses.{some_first}
+use Rattle.top_reply.proofs.EachCourse.{has_opened}
 use Rattle.top_reply.proofs.Paths.{Leads, Path, last_of, run_ends, run_stops, stop_among}
 
 -- it goes as the course, whichever the course is
 abbrev pub GoesAll : Option Command → Option Files → Option LibraryFiles → World → World → Status → Type 0
 GoesAll meaning held library w w' status =
     (course : Course) → IsCourseOf meaning held library course → Goes course w w' status
-
--- an answer has a course, where the objects tell
-abbrev pub AnswerHasCourse : Option Command → Option Files → Option LibraryFiles → Status → Type 0
-AnswerHasCourse meaning held library status = (files : Files) (books : LibraryFiles)
-    → Tells (touches_store meaning) held files → Tells (reads_file meaning) library books
-    → IsAnswer status → HasCourse meaning held library
 
 -- ---- answers and stops
 
@@ -143,7 +137,8 @@ begun_path params files none =
     let ended = calls_end s files held in (
       record {
         begins = inl none;
-        fronts = λ n le. inl (begun_still params files (all_changed (take n steps) files) none (calls_stand s files held n le));
+        fronts = λ n le. inl
+            (begun_still params files (all_changed (take n steps) files) none (calls_stand s files held n le));
         ends = inr (record { mark = Closed; stands = files_stand s (all_changed steps files) held.state ended });
       },
       (ended, held.state),
@@ -156,8 +151,8 @@ begun_stops params held library w w' s same goes = λ files is none.
     let course : Course = record { status = status.Done; turns = created_turn params files ∷ [] } in
     on_stop course w w' s
     (λ e. IsSomeAnd w'.held (λ now. (keys now ≡ []) ⊎ StandsFor now (no_cells params))) (stop_of s)
-    (λ e at. stop_among (NoneOrStands params) (AreBegun params) (λ now. (keys now ≡ []) ⊎ StandsFor now (no_cells params))
-    (λ now t holds. holds) e course.turns (no_cells params) (no_cells params ∷ []) files w w'
+    (λ e at. stop_among (NoneOrStands params) (AreBegun params)
+    (λ now. (keys now ≡ []) ⊎ StandsFor now (no_cells params)) (λ now t holds. holds) e course.turns (no_cells params) (no_cells params ∷ []) files w w'
     (begun_path params files none) (same ∙ is) at)
     (goes course (begun_course params held library files is none))
 
@@ -189,48 +184,6 @@ stops_reading (Some (Trial count number)) held library w w' s same goes = tt
 
 -- ---- the headline
 
-same_told : {T : Type 0} (asked : Bool) (told : Option T) (a b : T) → Tells asked told a → Tells asked told b
-    → asked ≡ true → a ≡ b
-same_told true told a b p q is = cc
-same_told false told a b p q is = absurd (cc)
-
--- a course depends on the library only where the command reads a file
-other_books : (command : DatabaseCommand) (books others : LibraryFiles) (s : State) (files : Files) (rest : Course)
-    → (database_reads command ≡ true → books ≡ others) → IsOpenedCourse command books s files rest
-    → IsOpenedCourse command others s files rest
-other_books (Ask query) books others s files rest same is = is
-other_books (Change (Add file)) books others s files rest same is =
-    subst (λ library. IsOpenedCourse (Change (Add file)) library s files rest) (same refl) is
-other_books (Change (Replace file)) books others s files rest same is =
-    subst (λ library. IsOpenedCourse (Change (Replace file)) library s files rest) (same refl) is
-other_books (Change (Remove key)) books others s files rest same is = is
-other_books (Apply script) books others s files rest same is =
-    subst (λ library. IsOpenedCourse (Apply script) library s files rest) (same refl) is
-other_books Rebuild books others s files rest same is = is
-
--- the rest of a course over files that read as this state
-record Rest (command : DatabaseCommand) (books : LibraryFiles) (s : State) (mark : ManifestState) (files : Files) : Type 0 where
-  rest : Course
-  rest_is : IsOpenedCourse command books s (all_changed (settling mark files s) files) rest
-
-rest_of : (command : DatabaseCommand) (held : Option Files) (library : Option LibraryFiles) (files : Files)
-    (books : LibraryFiles) (s : State) (mark : ManifestState) → held ≡ Some files
-    → Tells (database_reads command) library books → ReadsAs files s mark
-    → HasCourse (Some (Database command)) held library → Rest command books s mark files
-rest_of command held library files books s mark is tells reads has =
-    let of = has.is in
-    let same_files : of.files ≡ files = same_told true held of.files files of.store_tells is refl in
-    let opens : OpensAs files of.opening = subst (λ f. OpensAs f of.opening) same_files of.opens in
-    let same_opening : of.opening ≡ Opens s mark = one_opening files of.opening (Opens s mark) opens reads in
-    let course : IsDatabaseCourse command of.books files (Opens s mark) has.course =
-    subst (λ o. IsDatabaseCourse command of.books files o has.course) same_opening
-    (subst (λ f. IsDatabaseCourse command of.books f of.opening has.course) same_files of.is) in
-    record {
-      rest = course.rest;
-      rest_is = other_books command of.books books s (all_changed (settling mark files s) files) course.rest
-          (same_told (database_reads command) library of.books books of.library_tells tells) course.rest_is;
-    }
-
 holds_of : FilesAreGood → (s : State) (held : Option Files) (now : Files) → held ≡ Some now → AreSettled now s
     → HoldsFilesOf held s
 holds_of good s held now is settled = record {
@@ -253,21 +206,20 @@ begun_holds good params held library w w' s same goes = λ files is none answer.
 
 database_arrives : FilesAreGood → (command : DatabaseCommand) (held : Option Files) (library : Option LibraryFiles)
     (w w' : World) (s : Status) → w.held ≡ held → GoesAll (Some (Database command)) held library w w' s
-    → AnswerHasCourse (Some (Database command)) held library s
     → Headline (Some (Database command)) held library w'.held s
-database_arrives good command held library w w' s same goes told = λ files books t is tells holds stands answer.
+database_arrives good command held library w w' s same goes = λ files books t is tells holds stands answer.
     let mark = stands.mark in
     let reads = stands.stands.reads in
     let steps = settling mark files t in
     let tiles = count_settling mark t in
-    let rest = rest_of command held library files books t mark is tells reads (told files books is tells answer) in
-    let course = after_settling steps tiles rest.rest in
-    let passage = passage command books t (all_changed steps files) rest.rest rest.rest_is in
+    let rest = has_opened command books t (all_changed steps files) in
+    let course = after_settling steps tiles rest.0 in
+    let passage = passage command books t (all_changed steps files) rest.0 rest.1 in
     let done = answered course w w' s answer
-    (goes course (opened_course command held library files books t mark rest.rest is tells reads rest.rest_is)) in
+    (goes course (opened_course command held library files books t mark rest.0 is tells reads rest.1)) in
     let ends = run_ends StandsFor AreSettled course.turns t (t ∷ passage.states) files w w'
     (settled_path StandsFor AreSettled stand_kept command books holds t files steps tiles
-    (settling_stands t mark files stands.stands) rest.rest passage.states rest.rest_is passage.passes)
+    (settling_stands t mark files stands.stands) rest.0 passage.states rest.1 passage.passes)
     (same ∙ is) done.turns in
     record {
       state = last_of t passage.states;
@@ -277,22 +229,23 @@ database_arrives good command held library w w' s same goes told = λ files book
 
 pub headline : FilesAreGood → (meaning : Option Command) (held : Option Files) (library : Option LibraryFiles)
     (w w' : World) (s : Status) → w.held ≡ held → GoesAll meaning held library w w' s
-    → AnswerHasCourse meaning held library s → Headline meaning held library w'.held s
-headline good None held library w w' s same goes told = tt
-headline good (Some (Init params)) held library w w' s same goes told =
+    → Headline meaning held library w'.held s
+headline good None held library w w' s same goes = tt
+headline good (Some (Init params)) held library w w' s same goes =
     begun_holds good params held library w w' s same goes
-headline good (Some (Database command)) held library w w' s same goes told =
-    database_arrives good command held library w w' s same goes told
-headline good (Some (ReadCell file)) held library w w' s same goes told = tt
-headline good (Some (Audit file)) held library w w' s same goes told = tt
-headline good (Some (Trial count number)) held library w w' s same goes told = tt
+headline good (Some (Database command)) held library w w' s same goes =
+    database_arrives good command held library w w' s same goes
+headline good (Some (ReadCell file)) held library w w' s same goes = tt
+headline good (Some (Audit file)) held library w w' s same goes = tt
+headline good (Some (Trial count number)) held library w w' s same goes = tt
 
 -- ---- any number of runs
 
 held_stands : (s : State) (files : Files) → HoldsFilesOf (Some files) s → StandsFor files s
 held_stands s files holds =
     let same : holds.files ≡ files = cc (sym holds.held_is) in
-    subst (λ now. StandsFor now s) same (record { mark = Closed; stands = files_stand s holds.files holds.state holds.are })
+    subst (λ now. StandsFor now s) same
+    (record { mark = Closed; stands = files_stand s holds.files holds.state holds.are })
 
 chained : (runs : List Ordered) (s : State) (files files' : Files) → HoldsFilesOf (Some files) s
     → AllArrive runs files files' → AllArrived runs s files'

@@ -21,7 +21,8 @@ too_long_text file limit = joined (codes "F2 too long " ∷ file ∷ codes " lim
 -- by what the library holds under the file's name, and its limit
 abbrev pub found_in : List ℕ → ℕ → Option (List ℕ) → Found
 found_in file limit None = NoFile (absent_text file)
-found_in file limit (Some bytes) = if nat_lt limit (length bytes) then NoFile (too_long_text file limit) else Bytes bytes
+found_in file limit (Some bytes) =
+    if nat_lt limit (length bytes) then NoFile (too_long_text file limit) else Bytes bytes
 
 -- the reply to a file, by that to its bytes
 abbrev pub reply_by : (List ℕ → Reply) → Found → Reply

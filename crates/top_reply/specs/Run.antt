@@ -75,8 +75,8 @@ StopsFrom Is command library s mark files w w' status = let steps = settling mar
     → IsOpenedCourse command library s (all_changed steps files) rest → Passes command library s states
     → OnStop status (λ e. StopsBetween Is s states (quiet_turn steps (count_settling mark s) ∷ rest.turns) e w w')
 
--- Over files that stand for a state, a stop leaves files that stand for one that the command passes. A beginning that is
--- stopped leaves nothing, or files that stand for no cells.
+-- Over files that stand for a state, a stop leaves files that stand for one that the command passes. A beginning that
+-- is stopped leaves nothing, or files that stand for no cells.
 abbrev pub StopsStanding : Option Command → Option Files → Option LibraryFiles → World → World → Status → Type 0
 StopsStanding None held library w w' status = Unit {0}
 StopsStanding (Some (Init params)) held library w w' status = (files : Files)

@@ -1,7 +1,8 @@
-//! What courses and states are held to. Each function does nothing, or calls the laws that it rests on: its contract is a
-//! law.
+//! What courses and states are held to. Each function does nothing, or calls the laws that it rests on: its contract is
+//! a law.
 ghost use Rattle.database.specs.State.{ReadsFor, StandsFor};
-ghost use Rattle.top_reply.specs.Laws.{EachHasCourse, EachPasses, FilesAreGood, LinesAreTold, OneCourse, OneState, RunsChain, ValidIsDone};
+ghost use Rattle.top_reply.specs.Laws.{EachHasCourse, EachPasses, FilesAreGood, LinesAreTold, OneCourse, OneState};
+ghost use Rattle.top_reply.specs.Laws.{RunsChain, ValidIsDone};
 
 /// A command has one course.
 pub fn one_course()
@@ -42,7 +43,8 @@ pub fn valid_is_done()
     ensures { ValidIsDone }
 {}
 
-/// From a beginning on, after any number of answered runs, the files are those of the state after all accepted commands.
+/// From a beginning on, after any number of answered runs, the files are those of the state after all accepted
+/// commands.
 pub fn runs_chain()
     ensures { RunsChain }
 {
