@@ -14,3 +14,11 @@ pub returns-in_err-lines-in-Bytes-clause-comes : goal.returns-in_err-lines-in-By
 returns-in_err-lines-in-Bytes-clause-comes g c = λ s library course h is applied.
     let found = found_in c.args.script.now script_limit (get library c.args.script.now) in
     script_begins library s course _ _ c.from_residual-in_err-lines-in-Bytes.result found _ applied refl refl refl (inr refl) c.from_residual-in_err-lines-in-Bytes.ensures.1
+
+pub returns-in_err-do_lines-in-Bytes-clause-comes : goal.returns-in_err-do_lines-in-Bytes-clause-comes
+returns-in_err-do_lines-in-Bytes-clause-comes g c = λ s library course h is applied.
+    let found = found_in c.args.script.now script_limit (get library c.args.script.now) in
+    let read = found_as _ library (g.Li.Library.holds c.args.files.now) (λ books. found_in c.args.script.now script_limit (get books c.args.script.now)) is c.in_ok-open_file.ensures.read in
+    script_stops library s course _ _ c.from_residual-in_err-do_lines-in-Bytes.result found c.deref.result.now (map line_meant c.deref-in-Bytes.result.now) c.in_err-do_lines-in-Bytes.field-0.0 applied
+    (ap Bytes c.deref.ensures.value ∙ rw c.in-Bytes.is at read) (rw c.deref-in-Bytes.ensures.value c.in_ok-lines-in-Bytes.ensures)
+    (c.in_err-do_lines-in-Bytes.ensures.goes s library h (c.open_file.ensures.asks.same ∙ is)) c.from_residual-in_err-do_lines-in-Bytes.ensures.1
