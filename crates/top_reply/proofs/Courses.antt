@@ -22,7 +22,7 @@ text_append (x ∷ xs) ys =
     ap (λ zs. x.text ++ zs) (text_append xs ys) ∙ sym (append_assoc x.text (text_of xs) (text_of ys))
 
 pub tiles_append : (xs ys : List Turn) → tiles_of (xs ++ ys) ≡ tiles_of xs + tiles_of ys
-tiles_append [] ys = refl
+tiles_append [] ys = omega arith
 tiles_append (x ∷ xs) ys = let rest = tiles_append xs ys in omega (arith, rest)
 
 -- ---- texts, one after another
@@ -145,9 +145,9 @@ pub some_first : {stop : Stop} {turns : List Turn} {w w' : World} → StopsIn st
 some_first {stop = stop} {turns = turns} {w = w} {w' = w'} s =
     let p = in_turn stop s.turn s.mid w' s.at in (
       some_as (sym (ap steps_of s.parts ∙ steps_append s.before (s.turn ∷ s.later)))
-      (goes_on s.done.steps (stops (steps_of s.later) p.0)),
+          (goes_on s.done.steps (stops (steps_of s.later) p.0)),
       subst (λ text. FrontTaken w.taken text w'.taken)
-      (sym (ap text_of s.parts ∙ text_append s.before (s.turn ∷ s.later)))
-      (front_on (text_of s.before) (s.turn.text ++ text_of s.later) w.taken s.mid.taken w'.taken s.done.text
-      (front_more s.turn.text (text_of s.later) s.mid.taken w'.taken p.1)),
+          (sym (ap text_of s.parts ∙ text_append s.before (s.turn ∷ s.later)))
+          (front_on (text_of s.before) (s.turn.text ++ text_of s.later) w.taken s.mid.taken w'.taken s.done.text
+          (front_more s.turn.text (text_of s.later) s.mid.taken w'.taken p.1)),
     )

@@ -1,1 +1,14 @@
+pub mod Betweens
 pub mod Courses
+pub mod EachCourse
+pub mod FileLines
+pub mod GoodFiles
+pub mod HasLines
+pub mod Heights
+pub mod NoFeeds
+pub mod OneCourse
+pub mod OneLines
+pub mod Paths
+pub mod Running
+pub mod ToldLines
+pub mod Valid

@@ -1,5 +1,5 @@
 -- The course of a run: turns, each of which changes the store and then prints.
-use Rattle.std.specs.Prelude.{◌≡◌, ◌⊎◌, ℕ, ◌+◌, ◌<◌, ◌≤◌, List, [], ◌∷◌, ◌++◌, length, Option, Some, None, option_map, IfSome}
+use Rattle.std.specs.Prelude.{◌≡◌, ◌⊎◌, ℕ, ◌+◌, ◌<◌, ◌≤◌, List, [], ◌∷◌, ◌++◌, length, Option, Some, None, option_map}
 use Rattle.terrain_base.specs.declared.store.Change.{Change}
 use Rattle.terrain_base.specs.Step.{Files, Step}
 use Rattle.terrain_base.specs.Run.{AllDone, SomeDone}

@@ -1,5 +1,5 @@
 -- The courses of the commands on a database.
-use Rattle.std.specs.Prelude.{◌≡◌, ℕ, List, [], ◌∷◌, codes}
+use Rattle.std.specs.Prelude.{◌≡◌, ℕ, List, [], ◌∷◌}
 use Rattle.std.specs.FinMap.{get, keys}
 use Rattle.terrain_base.specs.declared.name.Key.{Key}
 use Rattle.terrain_base.specs.declared.params.Params.{Params}

@@ -1,5 +1,7 @@
 -- A file outside, as the commands that read one find it.
-use Rattle.std.specs.Prelude.{ℕ, List, [], ◌∷◌, length, codes, decimal, Option, Some, None, nat_lt, if◌then◌else◌}
+use Rattle.std.specs.Prelude.{◌≡◌, ℕ, ◌<◌, List, [], ◌∷◌, length, codes, decimal, Option, Some, None, nat_lt, slice_index, if◌then◌else◌}
+use Rattle.std.specs.FinMap.{get}
+use Rattle.terrain_base.specs.Library.{LibraryFiles}
 use Rattle.report_text.specs.Words.{joined}
 use Rattle.top_reply.specs.Reply.{Reply, refused_reply}
 
@@ -19,7 +21,8 @@ too_long_text file limit = joined (codes "F2 too long " ∷ file ∷ codes " lim
 -- by what the library holds under the file's name, and its limit
 abbrev pub found_in : List ℕ → ℕ → Option (List ℕ) → Found
 found_in file limit None = NoFile (absent_text file)
-found_in file limit (Some bytes) = if nat_lt limit (length bytes) then NoFile (too_long_text file limit) else Bytes bytes
+found_in file limit (Some bytes) =
+    if nat_lt limit (length bytes) then NoFile (too_long_text file limit) else Bytes bytes
 
 -- the reply to a file, by that to its bytes
 abbrev pub reply_by : (List ℕ → Reply) → Found → Reply
@@ -42,3 +45,9 @@ tile_limit = 16777216
 -- a script's
 abbrev pub script_limit : ℕ
 script_limit = 1048576
+
+-- ---- what a library holds
+
+-- files are lists of bytes
+abbrev pub HoldsBytes : LibraryFiles → Type 0
+HoldsBytes library = (file bytes : List ℕ) → get library file ≡ Some bytes → (k : ℕ) → slice_index bytes k < 256

@@ -1,17 +1,22 @@
 -- What courses and states are held to.
-use Rattle.std.specs.Prelude.{◌≡◌, List, [], ◌∷◌, Option, Some}
+use Rattle.std.specs.Prelude.{◌≡◌, ℕ, List, [], ◌∷◌, ◌++◌, Option, Some}
 use Rattle.terrain_base.specs.declared.params.Params.{Params}
 use Rattle.terrain_base.specs.Library.{LibraryFiles}
-use Rattle.terrain_base.specs.Step.{Files}
-use Rattle.top_words.specs.Words.{Command, DatabaseCommand}
+use Rattle.terrain_base.specs.Step.{Files, Step}
+use Rattle.top_words.specs.Script.{Line, AreLines}
+use Rattle.top_words.specs.Words.{Command, Database, DatabaseCommand}
+use Rattle.database.specs.Opening.{Opening, OpensAs}
 use Rattle.database.specs.State.{State, IsState, AreFiles, StandsFor}
 use Rattle.db_engine.specs.Holding.{no_cells}
 use Rattle.top_reply.specs.declared.status.Status.TheVariants.{Done}
-use Rattle.top_reply.specs.Course.{Course}
+use Rattle.top_reply.specs.declared.stop.Stop.{Stop}
+use Rattle.top_reply.specs.Course.{Course, World, quiet_turn}
 use Rattle.top_reply.specs.Good.{IsGoodDatabase}
-use Rattle.top_reply.specs.Passed.{Reaches}
+use Rattle.top_reply.specs.Lines.{commands_of, lines_course}
+use Rattle.top_reply.specs.Passed.{Passes, Reaches, StopsBetween}
 use Rattle.top_reply.specs.Run.{Arrives, HoldsFilesOf}
-use Rattle.top_reply.specs.Top.{IsCourseOf, Tells, IsOpenedAs, IsCourse, touches_store, reads_file}
+use Rattle.top_reply.specs.Told.{StopsTold, lines_told}
+use Rattle.top_reply.specs.Top.{HasCourse, IsCourseOf}
 use Rattle.top_reply.specs.Valid.{IsValid}
 
 -- a command has one course
@@ -24,9 +29,27 @@ abbrev pub OneState : Type 0
 OneState = (command : DatabaseCommand) (library : LibraryFiles) (s a b : State)
     → Reaches command library s a → Reaches command library s b → a ≡ b
 
+-- over files that open, each command on a database has a course, whatever the library holds
+abbrev pub EachHasCourse : Type 0
+EachHasCourse = (command : DatabaseCommand) (files : Files) (library : LibraryFiles) (opening : Opening)
+    → OpensAs files opening → HasCourse (Some (Database command)) (Some files) (Some library)
+
+-- and it passes states
+abbrev pub EachPasses : Type 0
+EachPasses = (command : DatabaseCommand) (library : LibraryFiles) (s : State)
+    → (states : List State) × Passes command library s states
+
 -- the files of a state are a good database
 abbrev pub FilesAreGood : Type 0
 FilesAreGood = (s : State) (files : Files) → IsState s → AreFiles files s → IsGoodDatabase s files
+
+-- of a script that is stopped, the whole lines beginning with `line ` that the sink took tell the state
+abbrev pub LinesAreTold : (Files → State → Type 0) → Type 0
+LinesAreTold Is = (library : LibraryFiles) (bytes : List ℕ) (lines : List Line) (s : State) (states : List State)
+    (steps : List Step) (tiles : ℕ) (e : Stop) (w w' : World) (taken more : List ℕ)
+    → AreLines bytes lines
+    → StopsBetween Is s states (quiet_turn steps tiles ∷ (lines_course library (commands_of 1 lines) s).turns) e w w'
+    → w.taken ≡ Some taken → w'.taken ≡ Some (taken ++ more) → StopsTold Is e s states (lines_told more) w'.held
 
 -- the course of a valid call is done
 abbrev pub ValidIsDone : Type 0

@@ -12,6 +12,7 @@ pub mod Query
 pub mod Reply
 pub mod Run
 pub mod Status
+pub mod Told
 pub mod Top
 pub mod Trial
 pub mod Valid

@@ -1,5 +1,5 @@
 -- What the lines of a script come to.
-use Rattle.std.specs.Prelude.{◌≡◌, ℕ, ◌+◌, Bool, true, false, not, List, [], ◌∷◌, ◌++◌, codes, Option, Some, None, cond, nat_lt}
+use Rattle.std.specs.Prelude.{ℕ, ◌+◌, List, [], ◌∷◌, ◌++◌, codes, Option, Some, None, cond, nat_lt}
 use Rattle.terrain_base.specs.Library.{LibraryFiles}
 use Rattle.report_text.specs.Words.{joined}
 use Rattle.top_words.specs.Script.{Line, Passed, Change, NoCommand}
@@ -73,5 +73,5 @@ abbrev pub lines_course : LibraryFiles → List Numbered → State → Course
 lines_course library lines s = record {
   status = status_by (nat_lt 0 (refused_in library lines s));
   turns = turns_of library lines s
-    ++ text_turn (ended_text (done_in library lines s) (refused_in library lines s)) ∷ [];
+      ++ text_turn (ended_text (done_in library lines s) (refused_in library lines s)) ∷ [];
 }

@@ -67,8 +67,11 @@ pub record Stopped (Is : Files → State → Type 0) (e : Stop) (s : State) (sta
   pub input : e ≡ stop.Input → IsSomeAnd held' (λ files. Is files (state_at s states n))
   pub output : e ≡ stop.Output → IsSomeAnd held' (λ files. Is files (state_at s states (suc n)))
 
--- of turns of which the first is settling: where it stopped, and for which states its files are then
+-- of turns of which the first is settling: where it stopped, and for which states its files are then; where the sink
+-- took anything of the turn in which it stopped, the turn's changes are made
 pub record StopsBetween (Is : Files → State → Type 0) (s : State) (states : List State) (turns : List Turn)
     (e : Stop) (w w' : World) : Type 0 where
   pub stops : StopsIn e turns w w'
   pub stopped : Stopped Is e s states (length stops.before - 1) w'.held
+  pub printed : (w'.taken ≡ stops.mid.taken → ⊥)
+      → IsSomeAnd w'.held (λ files. Is files (state_at s states (suc (length stops.before - 1))))

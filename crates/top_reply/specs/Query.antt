@@ -47,7 +47,7 @@ pub record IsShown (tile : TileId) (terrain note : List ℕ) (reply : Reply) : T
 
 -- by what is held under the names of its terrain and its note
 abbrev pub IsShownBy : TileId → Option (List ℕ) → Option (List ℕ) → Reply → Type 0
-IsShownBy tile None note reply = reply ≡ refused_reply (cause_of (TileLost (Terrain tile)))
+IsShownBy tile None _ reply = reply ≡ refused_reply (cause_of (TileLost (Terrain tile)))
 IsShownBy tile (Some terrain) None reply = reply ≡ refused_reply (cause_of (TileLost (Note tile)))
 IsShownBy tile (Some terrain) (Some note) reply = IsShown tile terrain note reply
 

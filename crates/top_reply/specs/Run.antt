@@ -1,7 +1,6 @@
 -- How a run went.
 use Rattle.std.specs.Prelude.{◌≡◌, ◌⊎◌, ℕ, ◌≤◌, List, [], ◌∷◌, Option, Some, None, IsSomeAnd}
-use Rattle.std.specs.FinMap.{get, keys}
-use Rattle.manifest_lines.specs.declared.state.State.TheVariants.{Closed}
+use Rattle.std.specs.FinMap.{keys}
 use Rattle.terrain_base.specs.Cause.{Rose}
 use Rattle.terrain_base.specs.Library.{LibraryFiles}
 use Rattle.terrain_base.specs.Overwrite.{all_changed}
@@ -11,13 +10,14 @@ use Rattle.terrain_base.specs.Step.{Files}
 use Rattle.db_manifest.specs.Manifest.{ManifestState}
 use Rattle.top_words.specs.Words.{DatabaseCommand, Command, Init, Database, ReadCell, Audit, Trial}
 use Rattle.database.specs.Commands.{settling}
-use Rattle.database.specs.State.{State, AreFiles, ReadsAs, ReadsFor, StandsMarked, StandsFor}
+use Rattle.database.specs.State.{State, IsState, AreFiles, ReadsAs, ReadsFor, StandsMarked, StandsFor}
 use Rattle.db_engine.specs.Holding.{no_cells}
 use Rattle.db_engine.specs.Settling.{count_settling}
 use Rattle.top_reply.specs.declared.status.Status.{Status}
 use Rattle.top_reply.specs.declared.stop.Stop.{Stop}
 use Rattle.top_reply.specs.Course.{Course, World, quiet_turn, steps_of, text_of}
 use Rattle.top_reply.specs.Database.{IsOpenedCourse}
+use Rattle.top_reply.specs.File.{HoldsBytes}
 use Rattle.top_reply.specs.Good.{IsGoodDatabase}
 use Rattle.top_reply.specs.Passed.{Passes, Reaches, StopsBetween}
 use Rattle.top_reply.specs.Status.{IsAnswer, stop_of}
@@ -29,6 +29,7 @@ use Rattle.top_reply.specs.Top.{Tells, database_reads}
 pub record HoldsFilesOf (held : Option Files) (s : State) : Type 0 where
   pub files : Files
   pub held_is : held ≡ Some files
+  pub state : IsState s
   pub are : AreFiles files s
   pub good : IsGoodDatabase s files
 
@@ -45,7 +46,7 @@ Headline None held library held' status = Unit {0}
 Headline (Some (Init params)) held library held' status = (files : Files)
     → held ≡ Some files → keys files ≡ [] → IsAnswer status → HoldsFilesOf held' (no_cells params)
 Headline (Some (Database command)) held library held' status = (files : Files) (books : LibraryFiles) (s : State)
-    → held ≡ Some files → Tells (database_reads command) library books → StandsFor files s
+    → held ≡ Some files → Tells (database_reads command) library books → HoldsBytes books → StandsFor files s
     → IsAnswer status → Arrives command books s held'
 Headline (Some (ReadCell file)) held library held' status = Unit {0}
 Headline (Some (Audit file)) held library held' status = Unit {0}
@@ -74,8 +75,8 @@ StopsFrom Is command library s mark files w w' status = let steps = settling mar
     → IsOpenedCourse command library s (all_changed steps files) rest → Passes command library s states
     → OnStop status (λ e. StopsBetween Is s states (quiet_turn steps (count_settling mark s) ∷ rest.turns) e w w')
 
--- Over files that stand for a state, a stop leaves files that stand for one that the command passes. A beginning that is
--- stopped leaves nothing, or files that stand for no cells.
+-- Over files that stand for a state, a stop leaves files that stand for one that the command passes. A beginning that
+-- is stopped leaves nothing, or files that stand for no cells.
 abbrev pub StopsStanding : Option Command → Option Files → Option LibraryFiles → World → World → Status → Type 0
 StopsStanding None held library w w' status = Unit {0}
 StopsStanding (Some (Init params)) held library w w' status = (files : Files)
@@ -83,7 +84,7 @@ StopsStanding (Some (Init params)) held library w w' status = (files : Files)
     → OnStop status (λ e. IsSomeAnd w'.held (λ held'. (keys held' ≡ []) ⊎ StandsFor held' (no_cells params)))
 StopsStanding (Some (Database command)) held library w w' status =
     (files : Files) (books : LibraryFiles) (s : State) (mark : ManifestState)
-    → held ≡ Some files → Tells (database_reads command) library books → StandsMarked files s mark
+    → held ≡ Some files → Tells (database_reads command) library books → HoldsBytes books → StandsMarked files s mark
     → StopsFrom StandsFor command books s mark files w w' status
 StopsStanding (Some (ReadCell file)) held library w w' status = Unit {0}
 StopsStanding (Some (Audit file)) held library w w' status = Unit {0}
@@ -95,7 +96,7 @@ StopsReading None held library w w' status = Unit {0}
 StopsReading (Some (Init params)) held library w w' status = Unit {0}
 StopsReading (Some (Database command)) held library w w' status =
     (files : Files) (books : LibraryFiles) (s : State) (mark : ManifestState)
-    → held ≡ Some files → Tells (database_reads command) library books → ReadsAs files s mark
+    → held ≡ Some files → Tells (database_reads command) library books → HoldsBytes books → ReadsAs files s mark
     → StopsFrom ReadsFor command books s mark files w w' status
 StopsReading (Some (ReadCell file)) held library w w' status = Unit {0}
 StopsReading (Some (Audit file)) held library w w' status = Unit {0}

@@ -1,14 +1,15 @@
 -- What a trial comes to: generated commands over a database in memory.
-use Rattle.std.specs.Prelude.{◌≡◌, ◌==◌, ℕ, ◌+◌, ◌/◌, ◌%◌, ◌^◌, is_some, cond, List, [], ◌∷◌, length, map, range_with_len, if◌then◌else◌}
+use Rattle.std.specs.Prelude.{◌≡◌, ◌==◌, ℕ, pos, ◌+◌, ◌/◌, ◌%◌, ◌^◌, is_some, cond, List, [], ◌∷◌, length, map, sum, refl, if◌then◌else◌}
 use Rattle.std.specs.FinMap.{entries, keys}
-use Rattle.std.specs.List.Sums.{sum_l}
+use Rattle.std.specs.List.{range_with_len}
+use Rattle.std.proofs.lemmas.Bool.{leb-true}
 use Rattle.terrain_base.specs.declared.cell_key.CellKey.{CellKey}
 use Rattle.terrain_base.specs.declared.level.CellLevel.TheVariants.{Zero}
 use Rattle.terrain_base.specs.declared.params.Params.{Params}
 use Rattle.terrain_base.specs.Step.{Files}
-use Rattle.cell_mosaic.specs.Summaries.{summaries_of}
+use Rattle.dted_cell.specs.Header.{square_of}
 use Rattle.dted_write.specs.Cell.{cell_text}
-use Rattle.dted_write.specs.Landscape.{generated_post}
+use Rattle.dted_write.specs.Generate.{generated_post}
 use Rattle.dted_write.specs.Mix.{mixed}
 use Rattle.database.specs.Commands.{Command, Add, Replace, Remove, existing, next, refusal_of}
 use Rattle.database.specs.State.{State, AreFiles}
@@ -25,10 +26,7 @@ use Rattle.top_reply.specs.declared.status.Status.TheVariants.{Done}
 
 -- one of nine squares round 0 degrees north and east, at level 0
 abbrev pub generated_key : ℕ → CellKey
-generated_key drawn = record {
-  square = record { lat = 89 + drawn % 9 / 3; lon = 179 + drawn % 9 % 3 };
-  level = Zero;
-}
+generated_key drawn = record { square = square_of (179 + drawn % 9 % 3) (89 + drawn % 9 / 3); level = Zero }
 
 abbrev pub generated_cell : ℕ → List ℕ
 generated_cell drawn = let key = generated_key drawn in
@@ -71,7 +69,7 @@ adding s = map (λ entry. Add entry.0 entry.1) (entries s.cells)
 
 -- the sum of the lengths of all files
 abbrev pub bytes_in : Files → ℕ
-bytes_in files = sum_l (map (λ entry. length entry.1) (entries files))
+bytes_in files = sum (map (λ entry. length entry.1) (entries files))
 
 pub record IsTotal (s : State) (total : ℕ) : Type 0 where
   pub files : Files
@@ -79,7 +77,13 @@ pub record IsTotal (s : State) (total : ℕ) : Type 0 where
   pub total_is : total ≡ bytes_in files
 
 abbrev pub trial_params : Params
-trial_params = record { cap = 9; fill = 0 }
+trial_params = record {
+  cap = 9;
+  fill = pos 0;
+  cap_in_range = leb-true 9 14 refl;
+  fill_above = record { le = tt };
+  fill_below = record { le = tt };
+}
 
 abbrev pub trial_end : ℕ → ℕ → State
 trial_end count number = after_all (generated_list count number) (no_cells trial_params)
@@ -103,10 +107,14 @@ trial_tiles count number =
     (begun_tiles + tiles_made (generated_list count number) (no_cells trial_params))
     + (begun_tiles + tiles_made (adding (trial_end count number)) (no_cells trial_params))
 
+-- by the line that tells it
+abbrev pub trial_course_by : ℕ → ℕ → List ℕ → Course
+trial_course_by count number line = record {
+  status = Done;
+  turns = record { steps = []; tiles = trial_tiles count number; text = (done_reply line).text } ∷ [];
+}
+
 pub record IsTrialCourse (count number : ℕ) (course : Course) : Type 0 where
   pub report : TrialReport
   pub is_trial : IsTrial count number report
-  pub course_is : course ≡ record {
-    status = Done;
-    turns = record { steps = []; tiles = trial_tiles count number; text = (done_reply (trial_line_of report)).text } ∷ [];
-  }
+  pub course_is : course ≡ trial_course_by count number (trial_line_of report)

@@ -1,5 +1,5 @@
 -- Calls that are done: nothing is wrong with them.
-use Rattle.std.specs.Prelude.{◌≡◌, true, false, ℕ, List, [], Option, None}
+use Rattle.std.specs.Prelude.{◌≡◌, true, false, ℕ, List, [], None}
 use Rattle.std.specs.FinMap.{get, keys}
 use Rattle.terrain_base.specs.Library.{LibraryFiles}
 use Rattle.terrain_base.specs.Step.{Files}
