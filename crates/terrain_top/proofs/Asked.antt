@@ -45,7 +45,7 @@ as_reply a b e h = subst (λ r. 0 < length r.text) (sym e) h
 
 some_held : (tile : TileId) (terrain note : Option (List ℕ)) (reply : Reply) → IsShownBy tile terrain note reply
     → 0 < length reply.text
-some_held tile None note reply is =
+some_held tile None _ reply is =
     as_reply reply (refused_reply (cause_of (answer.TileLost (Terrain tile)))) is (some_cause (cause_of (answer.TileLost (Terrain tile))))
 some_held tile (Some terrain) None reply is =
     as_reply reply (refused_reply (cause_of (answer.TileLost (Note tile)))) is (some_cause (cause_of (answer.TileLost (Note tile))))
@@ -76,7 +76,7 @@ some_reply (Deps tile) s files reply is =
 -- ---- there is one
 
 has_shown : (tile : TileId) (terrain note : Option (List ℕ)) → (reply : Reply) × IsShownBy tile terrain note reply
-has_shown tile None note = (refused_reply (cause_of (answer.TileLost (Terrain tile))), refl)
+has_shown tile None _ = (refused_reply (cause_of (answer.TileLost (Terrain tile))), refl)
 has_shown tile (Some terrain) None = (refused_reply (cause_of (answer.TileLost (Note tile))), refl)
 has_shown tile (Some terrain) (Some note) =
     let least = has_height (header_in terrain).least in

@@ -149,6 +149,11 @@ passes_goes course w w' (Err stop.NoMemory) p = p
 
 -- ---- memory was refused
 
+pub memory_at : {T : Type 0} (e : Stop) (result : Result T Stop) → IsErrAnd result (λ x. x ≡ e) → e ≡ stop.NoMemory
+    → IsErrAnd result (λ x. x ≡ stop.NoMemory)
+memory_at e (Ok value) err is = absurd err
+memory_at e (Err x) err is = err ∙ is
+
 pub memory_says : {T : Type 0} (P : T → Type 0) (result : Result T Stop) → IsErrAnd result (λ e. e ≡ stop.NoMemory) → IfOk result P
 memory_says P (Ok value) err = absurd err
 memory_says P (Err e) err = tt

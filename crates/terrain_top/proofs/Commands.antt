@@ -14,15 +14,16 @@ use Rattle.report_text.specs.Tile.{audit_line_of}
 use Rattle.report_text.specs.TileRefusal.{tile_refusal_text_of}
 use Rattle.top_words.specs.Words.{Command, DatabaseCommand, Init, Database, ReadCell, Audit, Trial}
 use Rattle.database.specs.Opening as opens
+use Rattle.top_reply.specs.declared.status.Status.{Status}
 use Rattle.top_reply.specs.declared.stop.Stop.{Stop}
 use Rattle.top_reply.specs.declared.stop.Stop.TheVariants as stop
 use Rattle.top_reply.specs.Audit.{audit_reply, tile_reply, tile_reply_by}
 use Rattle.top_reply.specs.Cell.{cell_reply, read_reply, read_reply_by}
-use Rattle.top_reply.specs.Course.{Course, StopsIn, World, said, text_turn}
+use Rattle.top_reply.specs.Course.{Course, Goes, StopsIn, World, said, text_turn}
 use Rattle.top_reply.specs.Database.{init_course}
 use Rattle.top_reply.specs.File.{Found, Bytes, NoFile, cell_limit, found_in, reply_by, tile_limit}
 use Rattle.top_reply.specs.Reply.{Reply}
-use Rattle.top_reply.specs.Top.{HasCourse, IsCourseOf, Tells, database_reads, reads_file, touches_store}
+use Rattle.top_reply.specs.Top.{HasCourse, IsCourseOf, Tells, database_reads, reads_file, touches_store, usage_reply}
 use Rattle.top_reply.specs.Trial.{IsTrialCourse}
 use Rattle.terrain_top.specs.declared.answer.Answer.{Answer}
 use Rattle.terrain_top.specs.Comes.{Comes}
@@ -136,3 +137,15 @@ told_database command held library files books (Ok a) is tells has = record {
   };
 }
 told_database command held library files books (Err e) is tells has = tt
+
+-- ---- no command
+
+pub no_command : (held : Option Files) (library : Option LibraryFiles) (files : Files) (books : LibraryFiles)
+    → HasCourse None held library
+no_command held library files books = record {
+  course = said usage_reply;
+  is = record { files = files; books = books; opening = some_opening; store_tells = tt; library_tells = tt; opens = tt; is = refl };
+}
+
+pub as_goes : (a b : Course) (w w' : World) (status : Status) → a ≡ b → Goes a w w' status → Goes b w w' status
+as_goes a b w w' status e goes = subst (λ x. Goes x w w' status) e goes

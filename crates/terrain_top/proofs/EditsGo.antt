@@ -1,6 +1,6 @@
 -- What the engine's answer to an edit comes to.
-use Rattle.std.proofs.Common.{◌≡◌, ℕ, ◌+◌, ◌<◌, ◌≤◌, true, List, [], ◌++◌, length, codes, string_bytes, Option, Some, None, Result, Ok, Err, IfErr, IfOk, IsErrOf, refl, sym, ap, subst, ◌∙◌, inl, inr, arith, length-append}
-use Rattle.std.specs.Prelude.{IsSomeAnd}
+use Rattle.std.proofs.Common.{◌≡◌, ◌⊎◌, ℕ, ◌+◌, ◌<◌, ◌≤◌, true, List, [], ◌++◌, length, codes, string_bytes, Option, Some, None, Result, Ok, Err, IfErr, IfOk, IsErrOf, refl, sym, ap, subst, ◌∙◌, inl, inr, arith, length-append}
+use Rattle.std.specs.Prelude.{IsErrAnd, IsSomeAnd}
 use Rattle.terrain_base.specs.declared.square.Square.{Square}
 use Rattle.terrain_base.specs.declared.store.Change.{Change}
 use Rattle.terrain_base.specs.Run.{SomeDone}
@@ -172,3 +172,13 @@ pub wanted_as : (a b : Wanted) (s : State) (held held' : Option Files) (log log'
     → EditGoes (wanted_reply b s) held held' log log' o' work work' result
 wanted_as a b s held held' log log' o' work work' result e goes =
     subst (λ x. EditGoes (wanted_reply x s) held held' log log' o' work work' result) e goes
+
+-- a file that is asked for is not read
+pub edit_unread : (reply : EditReply) (held : Option Files) (log : Option (List Change)) (o : Contents) (work : ℕ) (e : Stop)
+    (result : Result Answer Stop) → (e ≡ stop.Input) ⊎ (e ≡ stop.NoMemory) → IsErrAnd result (λ x. x ≡ e)
+    → EditGoes reply held held log log o work work result
+edit_unread reply held log o work e (Ok a) which err = absurd err
+edit_unread reply held log o work e (Err x) (inl p) err =
+    subst (λ y. TurnStops y reply.steps held held log log) (sym (err ∙ p)) (refl, refl)
+edit_unread reply held log o work e (Err x) (inr p) err =
+    subst (λ y. TurnStops y reply.steps held held log log) (sym (err ∙ p)) (not_yet refl refl)

@@ -1,7 +1,7 @@
 -- What a line comes to, and how lines follow each other.
 use Rattle.std.proofs.Common.{◌≡◌, ◌⊎◌, ℕ, ◌+◌, ◌<◌, ◌≤◌, Bool, true, false, List, [], ◌∷◌, ◌++◌, length, take, drop, get_or, map, Option, Some, None, option_map, Result, Ok, Err, IfErr, refl, sym, ap, subst, ◌∙◌, inl, inr, arith, add-zero, zero-add}
 use Rattle.std.specs.Prelude.{IsErrAnd, cond}
-use Rattle.std.proofs.lemmas.List.{take_more, map-append, length-map, length-take-le, take-append-drop}
+use Rattle.std.proofs.lemmas.List.{take_all, take_more, map-append, length-map, length-take-le, take-append-drop}
 use Rattle.terrain_base.specs.Library.{LibraryFiles}
 use Rattle.terrain_base.specs.Sink.{FrontTaken}
 use Rattle.terrain_base.proofs.Runs.{not_yet}
@@ -235,3 +235,10 @@ module _ {X : Type 0} (m : X → Line) (library : LibraryFiles) (xs : List X) (i
       (lines_more library (commands_of 1 (map m (take (i + 1) xs)))
       (commands_of (1 + length (map m (take (i + 1) xs))) (map m (drop (i + 1) xs))) s w w' y
       (subst (λ z. StopsIn z (turns_of library (commands_of 1 (map m (take (i + 1) xs))) s) w w') (sym is_e) (stop_more t e a st)))
+
+-- all of them are done
+pub lines_all : {X : Type 0} (m : X → Line) (library : LibraryFiles) (xs : List X) (i : ℕ) → length xs ≤ i → (s : State)
+    (w w' : World) (o : Contents) (t : Tally) → LinesDone library (commands_of 1 (map m (take i xs))) s w w' o t
+    → LinesDone library (commands_of 1 (map m xs)) s w w' o t
+lines_all m library xs i past s w w' o t d =
+    subst (λ ys. LinesDone library (commands_of 1 (map m ys)) s w w' o t) (take_all i xs past) d

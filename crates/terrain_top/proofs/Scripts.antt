@@ -119,7 +119,7 @@ module _ (library : LibraryFiles) (s : State) (course : Course) (w w' : World) (
 
 -- ---- there is a course
 
-has_script : (library : LibraryFiles) (s : State) (found : Found) (bytes : List ℕ) (lines : List Line) → Bytes bytes ≡ found
+pub has_script : (library : LibraryFiles) (s : State) (found : Found) (bytes : List ℕ) (lines : List Line) → Bytes bytes ≡ found
     → AreLines bytes lines → HasApplied found library s
 has_script library s found bytes lines found_is are = subst (λ f. HasApplied f library s) found_is
     (lines_course library (commands_of 1 lines) s, record { lines = lines; are = are; course_is = refl })
@@ -129,7 +129,7 @@ has_none : (library : LibraryFiles) (s : State) (found : Found) (cause : List �
 has_none library s found cause found_is =
     subst (λ f. HasApplied f library s) found_is (said (refused_reply cause), refl)
 
-on_ok : {T E P : Type 0} (result : Result T E) → P → IfOk result (λ value. P)
+pub on_ok : {T E P : Type 0} (result : Result T E) → P → IfOk result (λ value. P)
 on_ok (Ok value) p = p
 on_ok (Err e) p = tt
 

@@ -128,12 +128,6 @@ same_files files is h = let both : Some h.files ≡ Some files = sym h.held_is �
 
 module _ (s : State) (files : Files) (held held' : Option Files) (log log' : Option (List Change)) (o o' : Contents)
     (work work' : ℕ) (is : held ≡ Some files) (h : Holds held o s) where
-  pub anew_memory : (result : Result Answer Stop) (e : Stop) → AllDone (rebuild_calls h.files s) held log held' log'
-      → IsErrAnd result (λ x. x ≡ e) → e ≡ stop.NoMemory → TurnOf (rebuilt_course s files) held held' log log' work work' result
-  anew_memory (Ok a) e done err memory = absurd err
-  anew_memory (Err x) e done err memory = at_memory (rebuild_calls files s) x
-      (all_some (subst (λ f. AllDone (rebuild_calls f s) held log held' log') (same_files files is h) done)) (err ∙ memory)
-
   pub anew : (result : Result Answer Stop) → AllDone (rebuild_calls h.files s) held log held' log' → o' ≡ o
       → work' ≤ work + count_existing s (existing s) → IfOk result (Says (done_reply (rebuilt_line_of (tiles_of o'))))
       → OnlyMemory result → TurnOf (rebuilt_course s files) held held' log log' work work' result

@@ -10,8 +10,8 @@ returns-in_err-line-in-Ok-clause-goes g c = λ files is.
     begun c.args.params files _ _ _ _ _ _ (keys files) c.from_residual.result none (c.in-Ok.ensures.ran files is none).ok (c.in-Ok.ensures.few files is none)
     (memory_says _ c.from_residual.result c.from_residual.ensures.1) (memory_only c.from_residual.result c.from_residual.ensures.1)
 
-pub returns-in-Ok-clause-goes : goal.returns-in-Ok-clause-goes
-returns-in-Ok-clause-goes g c = λ files is.
+pub returns-in_ok-line-in-Ok-clause-goes : goal.returns-in_ok-line-in-Ok-clause-goes
+returns-in_ok-line-in-Ok-clause-goes g c = λ files is.
     let none = c.in-Ok.ensures.empty files is in
     begun c.args.params files _ _ _ _ _ _ (keys files) c.done.result none (c.in-Ok.ensures.ran files is none).ok (c.in-Ok.ensures.few files is none)
     (rw (c.deref.ensures ∙ c.in_ok-line-in-Ok.ensures) at c.done.ensures.says) c.done.ensures.memory

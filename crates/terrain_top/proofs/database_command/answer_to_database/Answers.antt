@@ -1,5 +1,6 @@
 use Rattle.std.proofs.Common.{refl}
 use Rattle.top_words.specs.Meant.{database_meant}
+use Rattle.top_reply.specs.Course.{world}
 use Rattle.terrain_top.proofs.Settled.{settled, settled_told, not_settled, not_settled_told}
 use Rattle.terrain_top.proofs.database_command.answer_to_database.Goals as goal
 
@@ -21,4 +22,4 @@ returns-in-Err-clause-comes g c = λ held library opening course is tells opens 
 
 pub returns-in-Err-clause-told : goal.returns-in-Err-clause-told
 returns-in-Err-clause-told g c = λ held library is tells.
-    not_settled_told (database_meant c.args.command.now) library held _ _ is c.in-Err.answer c.answer_of.result (c.in-Err.ensures.refused held is) refl c.answer_of.ensures.says c.answer_of.ensures.stops
+    not_settled_told (database_meant c.args.command.now) library held (world (g.St.Store.holds c.args.store.now) (g.St.Store.log c.args.store.now) (g.Si.Sink.taken c.args.out.now) c.args.work.now) (world (g.St.Store.holds c.settle.new.store) (g.St.Store.log c.settle.new.store) (g.Si.Sink.taken c.args.out.now) c.settle.new.work) is c.in-Err.answer c.answer_of.result (c.in-Err.ensures.refused held is) refl c.answer_of.ensures.says c.answer_of.ensures.stops
