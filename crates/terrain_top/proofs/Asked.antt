@@ -1,4 +1,4 @@
--- What is asked of a database has a reply, which is not empty.
+-- The reply to what is asked of a database is not empty, and nothing else is changed.
 use Rattle.std.proofs.Common.{◌≡◌, ◌⊎◌, ℕ, ℤ, ◌<◌, ◌≤◌, Bool, true, false, List, [], ◌∷◌, length, Option, Some, None, Result, Ok, Err, IfErr, IfOk, refl, sym, ap, subst, ◌∙◌, inl, inr, arith}
 use Rattle.std.specs.Prelude.{if◌then◌else◌}
 use Rattle.std.specs.FinMap.{get}
@@ -27,11 +27,9 @@ use Rattle.top_reply.specs.Reply.{Reply, cause_of, refused_reply, text_reply}
 use Rattle.terrain_top.specs.declared.answer.Answer.{Answer}
 use Rattle.terrain_top.specs.Comes.{Comes}
 use Rattle.terrain_top.specs.Says.{Says}
-use Rattle.terrain_top.specs.Told.{HasReply}
 use Rattle.terrain_top.specs.Turns.{TurnStops}
 use Rattle.terrain_top.proofs.Coming.{comes_as, in_turn, said_comes}
 use Rattle.terrain_top.proofs.EditsGo.{some_cause}
-use Rattle.terrain_top.proofs.Heights.{has_height}
 
 -- ---- it is not empty
 
@@ -72,27 +70,6 @@ some_reply (Deps tile) s files reply is =
     as_reply reply (deps_reply tile s.params.cap (summaries_of s.cells)) is
     (some_deps (exists_of s.params.cap (summaries_of s.cells) tile) (cause_of (answer.NoTile tile))
     (deps_text_of tile (touching tile (squares_of (summaries_of s.cells)))) (omega arith))
-
--- ---- there is one
-
-has_shown : (tile : TileId) (terrain note : Option (List ℕ)) → (reply : Reply) × IsShownBy tile terrain note reply
-has_shown tile None _ = (refused_reply (cause_of (answer.TileLost (Terrain tile))), refl)
-has_shown tile (Some terrain) None = (refused_reply (cause_of (answer.TileLost (Note tile))), refl)
-has_shown tile (Some terrain) (Some note) =
-    let least = has_height (header_in terrain).least in
-    let greatest = has_height (header_in terrain).greatest in (
-      shown_by tile terrain note least.0 greatest.0 (tile_refusal_of terrain),
-      record { least = least.0; greatest = greatest.0; least_is = least.1; greatest_is = greatest.1; reply_is = refl },
-    )
-
-has_inspected : (exists : Bool) (tile : TileId) (files : Files) → (reply : Reply) × IsInspected exists tile files reply
-has_inspected false tile files = (refused_reply (cause_of (answer.NoTile tile)), refl)
-has_inspected true tile files = has_shown tile (get files (Terrain tile)) (get files (Note tile))
-
-pub has_reply : (query : Query) (s : State) (files : Files) → HasReply query s files
-has_reply ListCells s files = (_, refl)
-has_reply (Inspect tile) s files = has_inspected (tile_exists s tile) tile files
-has_reply (Deps tile) s files = (deps_reply tile s.params.cap (summaries_of s.cells), refl)
 
 -- ---- a question changes nothing
 

@@ -23,6 +23,7 @@ use Rattle.top_reply.specs.Course.{Course, Goes, StopsIn, World, said, text_turn
 use Rattle.top_reply.specs.Database.{init_course}
 use Rattle.top_reply.specs.File.{Found, Bytes, NoFile, cell_limit, found_in, reply_by, tile_limit}
 use Rattle.top_reply.specs.Reply.{Reply}
+use Rattle.top_reply.specs.Status.{IsAnswer}
 use Rattle.top_reply.specs.Top.{HasCourse, IsCourseOf, Tells, database_reads, reads_file, touches_store, usage_reply}
 use Rattle.top_reply.specs.Trial.{IsTrialCourse}
 use Rattle.terrain_top.specs.declared.answer.Answer.{Answer}
@@ -149,3 +150,22 @@ no_command held library files books = record {
 
 pub as_goes : (a b : Course) (w w' : World) (status : Status) → a ≡ b → Goes a w w' status → Goes b w w' status
 as_goes a b w w' status e goes = subst (λ x. Goes x w w' status) e goes
+
+-- ---- by the one meaning
+
+pub meant_goes : (meaning other : Option Command) (held : Option Files) (library : Option LibraryFiles) (w w' : World)
+    (status : Status) → meaning ≡ other
+    → ((course : Course) → IsCourseOf other held library course → Goes course w w' status)
+    → (course : Course) → IsCourseOf meaning held library course → Goes course w w' status
+meant_goes meaning other held library w w' status e goes =
+    subst (λ m. (course : Course) → IsCourseOf m held library course → Goes course w w' status) (sym e) goes
+
+pub meant_has : (meaning other : Option Command) (held : Option Files) (library : Option LibraryFiles) (files : Files)
+    (books : LibraryFiles) (status : Status) → meaning ≡ other
+    → ((files : Files) (books : LibraryFiles) → Tells (touches_store other) held files → Tells (reads_file other) library books
+    → IsAnswer status → HasCourse other held library)
+    → Tells (touches_store meaning) held files → Tells (reads_file meaning) library books → IsAnswer status
+    → HasCourse meaning held library
+meant_has meaning other held library files books status e has = subst
+    (λ m. (files : Files) (books : LibraryFiles) → Tells (touches_store m) held files → Tells (reads_file m) library books
+    → IsAnswer status → HasCourse m held library) (sym e) has files books

@@ -141,7 +141,7 @@ module _ (c : Command) (s : State) (held held' : Option Files) (log log' : Optio
   by_refusal faults faults' done result (Some refusal) live is ran refused turned tells =
       let down = refused refusal is in
       let told : Answers (done_reply (edited_line_of edited square (tiles_of o'))) (Err refusal) result =
-          subst (λ d. Answers (done_reply (edited_line_of edited square (tiles_of o'))) d result) down.answered tells in
+      subst (λ d. Answers (done_reply (edited_line_of edited square (tiles_of o'))) d result) down.answered tells in
       turned_down refusal result live down.opened down.same_held down.same_log down.same_work ran.holds told
 
   pub edit_goes : (faults faults' : ℕ) (done : Result (Unit {0}) EngineAnswer) (result : Result Answer Stop)

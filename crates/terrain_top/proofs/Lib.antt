@@ -2,7 +2,6 @@ pub mod Asked
 pub mod Coming
 pub mod Commands
 pub mod EditsGo
-pub mod Heights
 pub mod Lines
 pub mod Meanings
 pub mod Scripts

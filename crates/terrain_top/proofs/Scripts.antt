@@ -22,7 +22,6 @@ use Rattle.terrain_top.specs.Comes.{Comes, Ends}
 use Rattle.terrain_top.specs.Effects.{OnlyMemory}
 use Rattle.terrain_top.specs.LinesGo.{LinesDone, ended_reply}
 use Rattle.terrain_top.specs.Says.{Says}
-use Rattle.terrain_top.specs.Told.{HasApplied}
 use Rattle.terrain_top.proofs.Coming.{comes_as, not_begun, said_comes}
 use Rattle.terrain_top.proofs.EditsGo.{some_cause}
 
@@ -117,28 +116,8 @@ module _ (library : LibraryFiles) (s : State) (course : Course) (w w' : World) (
       (sym (subst (λ f. IsApplied f library s course) (sym found_is) is))
       (refused_stop cause result held log taken work says memory)
 
--- ---- there is a course
-
-pub has_script : (library : LibraryFiles) (s : State) (found : Found) (bytes : List ℕ) (lines : List Line) → Bytes bytes ≡ found
-    → AreLines bytes lines → HasApplied found library s
-has_script library s found bytes lines found_is are = subst (λ f. HasApplied f library s) found_is
-    (lines_course library (commands_of 1 lines) s, record { lines = lines; are = are; course_is = refl })
-
-has_none : (library : LibraryFiles) (s : State) (found : Found) (cause : List ℕ) → NoFile cause ≡ found
-    → HasApplied found library s
-has_none library s found cause found_is =
-    subst (λ f. HasApplied f library s) found_is (said (refused_reply cause), refl)
+-- ---- what holds anyway
 
 pub on_ok : {T E P : Type 0} (result : Result T E) → P → IfOk result (λ value. P)
 on_ok (Ok value) p = p
 on_ok (Err e) p = tt
-
-pub told_script : (library : LibraryFiles) (s : State) (found : Found) (bytes : List ℕ) (lines : List Line)
-    (result : Result Answer Stop) → Bytes bytes ≡ found → AreLines bytes lines
-    → IfOk result (λ a. HasApplied found library s)
-told_script library s found bytes lines result found_is are =
-    on_ok result (has_script library s found bytes lines found_is are)
-
-pub told_none_read : (library : LibraryFiles) (s : State) (found : Found) (cause : List ℕ) (result : Result Answer Stop)
-    → NoFile cause ≡ found → IfOk result (λ a. HasApplied found library s)
-told_none_read library s found cause result found_is = on_ok result (has_none library s found cause found_is)

@@ -11,7 +11,7 @@ ghost use Rattle.top_reply.specs.Database.{IsDatabaseCourse, IsOpenedCourse};
 ghost use Rattle.top_reply.specs.Top.{Tells, database_reads};
 ghost use Rattle.terrain_top.specs.Comes.{Comes};
 ghost use Rattle.terrain_top.specs.Effects.{StopHasCause};
-ghost use Rattle.terrain_top.specs.Told.{HasOfDatabase, HasOpened};
+ghost use Rattle.terrain_top.specs.Told.{HasOfDatabase};
 
 use crate::answer::Answer;
 use crate::change::answer_to_rebuild;
@@ -37,7 +37,6 @@ fn answer_opened<St: Store, Li: Library, Si: Sink>(
 ) -> Result<Answer, Stop>
     requires { opened.old.live ≡ true }
     ensures comes { (s : State) (held : Files) (library : LibraryFiles) (course : Course) → Holds (St.holds store.old) opened.old s → St.holds store.old ≡ Some held → Tells (database_reads (database_meant command.now)) (Li.holds files.old) library → IsOpenedCourse (database_meant command.now) library s held course → Comes course (world (St.holds store.old) (St.log store.old) (Si.taken out.old) work.old) (world (St.holds store.new) (St.log store.new) (Si.taken out.new) work.new) result }
-    ensures told { (s : State) (held : Files) (library : LibraryFiles) → Tells (database_reads (database_meant command.now)) (Li.holds files.old) library → IfOk result (λ answer. HasOpened (database_meant command.now) library s held) }
     ensures same { Li.holds files.new ≡ Li.holds files.old }
     ensures library { StopHasCause Stop.Input (Li.faults files.old) (Li.faults files.new) result }
     ensures reads { IsErrOf result Stop.Input → database_reads (database_meant command.now) ≡ true }

@@ -5,7 +5,6 @@ ghost use Rattle.db_report.specs.Tile.{IsHeightWord};
 ghost use Rattle.mesh_codec.specs.Tile.{header_in};
 ghost use Rattle.terrain_top.specs.Effects.{OnlyMemory, OnStore};
 ghost use Rattle.terrain_top.specs.Says.{Says};
-ghost use Rattle.terrain_top.specs.Told.{HasReply};
 ghost use Rattle.terrain_base.specs.Step.{Files};
 ghost use Rattle.availability.specs.Existence.{exists_of};
 ghost use Rattle.database.specs.State.{State};

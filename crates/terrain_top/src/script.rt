@@ -18,7 +18,6 @@ ghost use Rattle.terrain_top.specs.Effects.{Asks, OnlyMemory, StopHasCause};
 ghost use Rattle.terrain_top.specs.LinesGo.{IsCommandLine, IsLive, IsWithin, LineTold, LinesGo, ended_reply, line_wanted, tally_at};
 ghost use Rattle.terrain_top.specs.Meant.{wanted_meant};
 ghost use Rattle.terrain_top.specs.Says.{Says};
-ghost use Rattle.terrain_top.specs.Told.{HasApplied};
 
 use crate::answer::{Answer, Ending, refused};
 use crate::edit::{Wanted, carry_out, read_wanted};
@@ -214,7 +213,6 @@ pub(crate) fn answer_to_apply<St: Store, Li: Library, Si: Sink>(
 ) -> Result<Answer, Stop>
     requires { opened.old.live ≡ true }
     ensures comes { (s : State) (library : LibraryFiles) (course : Course) → Holds (St.holds store.old) opened.old s → Li.holds files.old ≡ Some library → IsApplied (found_in script.now script_limit (finmap.get library script.now)) library s course → Comes course (world (St.holds store.old) (St.log store.old) (Si.taken out.old) work.old) (world (St.holds store.new) (St.log store.new) (Si.taken out.new) work.new) result }
-    ensures told { (s : State) (library : LibraryFiles) → Li.holds files.old ≡ Some library → IfOk result (λ answer. HasApplied (found_in script.now script_limit (finmap.get library script.now)) library s) }
     ensures same { Li.holds files.new ≡ Li.holds files.old }
     ensures library { StopHasCause Stop.Input (Li.faults files.old) (Li.faults files.new) result }
     ensures store { StopHasCause Stop.Store (St.faults store.old) (St.faults store.new) result }

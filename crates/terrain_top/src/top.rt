@@ -6,9 +6,10 @@ ghost use Rattle.terrain_base.specs.Step.{Files};
 ghost use Rattle.top_words.specs.Meant.{meant};
 ghost use Rattle.top_words.specs.Words as spelled;
 ghost use Rattle.top_reply.specs.Course.{Course, Goes, said, world};
-ghost use Rattle.top_reply.specs.Run.{FaultHasCause};
+ghost use Rattle.top_reply.specs.Run.{FaultHasCause, Headline, IsFrontOf, OnStop, StopsReading, StopsStanding};
 ghost use Rattle.top_reply.specs.Status.{IsAnswer};
 ghost use Rattle.top_reply.specs.Top.{HasCourse, IsCourseOf, IsMeant, Tells, makes_tiles, reads_file, touches_store, usage_reply};
+ghost use Rattle.top_reply.specs.Valid.{IsValid};
 ghost use Rattle.terrain_top.specs.Comes.{Comes, Passes};
 ghost use Rattle.terrain_top.specs.Effects.{StopHasCause, StoreStays};
 
@@ -151,6 +152,18 @@ pub fn run<St: Store, Li: Library, Si: Sink>(
     // Over objects that tell what they hold, as far as they are asked, a run that went to its end has a course.
     ensures told { (meaning : Option spelled.Command) → IsMeant (map string_bytes words.now) meaning → (held : Files) (library : LibraryFiles) → Tells (touches_store meaning) (St.holds store.old) held → Tells (reads_file meaning) (Li.holds files.old) library → IsAnswer result → HasCourse meaning (St.holds store.old) (Li.holds files.old) }
 
+    // After an answer the files are those of the state after the accepted commands, and all their tiles are good.
+    ensures headline { (meaning : Option spelled.Command) → IsMeant (map string_bytes words.now) meaning → Headline meaning (St.holds store.old) (Li.holds files.old) (St.holds store.new) result }
+
+    // After a stop they are those of a state that the command passes. Some first changes of the course were made, and the
+    // sink took some first bytes of its text.
+    ensures stops { (meaning : Option spelled.Command) → IsMeant (map string_bytes words.now) meaning → StopsStanding meaning (St.holds store.old) (Li.holds files.old) (world (St.holds store.old) (St.log store.old) (Si.taken out.old) work.old) (world (St.holds store.new) (St.log store.new) (Si.taken out.new) work.new) result }
+    ensures reading { (meaning : Option spelled.Command) → IsMeant (map string_bytes words.now) meaning → StopsReading meaning (St.holds store.old) (Li.holds files.old) (world (St.holds store.old) (St.log store.old) (Si.taken out.old) work.old) (world (St.holds store.new) (St.log store.new) (Si.taken out.new) work.new) result }
+    ensures fronts { (meaning : Option spelled.Command) → IsMeant (map string_bytes words.now) meaning → (course : Course) → IsCourseOf meaning (St.holds store.old) (Li.holds files.old) course → OnStop result (λ e. IsFrontOf course (world (St.holds store.old) (St.log store.old) (Si.taken out.old) work.old) (world (St.holds store.new) (St.log store.new) (Si.taken out.new) work.new)) }
+
+    // A valid call that answers at all is done.
+    ensures valid { (command : spelled.Command) → IsMeant (map string_bytes words.now) (Some command) → (held : Files) (library : LibraryFiles) → Tells (touches_store (Some command)) (St.holds store.old) held → Tells (reads_file (Some command)) (Li.holds files.old) library → IsValid command held library → IsAnswer result → result ≡ Status.Done }
+
     // 'Usage' is the answer exactly where the words are no command.
     ensures usage { IsAnswer result → ((result ≡ Status.Usage) ↔ IsMeant (map string_bytes words.now) None) }
 
@@ -173,5 +186,6 @@ pub fn run<St: Store, Li: Library, Si: Sink>(
     ensures more { work.old ≤ work.new }
     ensures idle { (meaning : Option spelled.Command) → IsMeant (map string_bytes words.now) meaning → makes_tiles meaning ≡ false → work.new ≡ work.old }
 {
+    top_reply::laws::files_are_good();
     run_meant(alloc, command_of(words), store, files, out, work)
 }

@@ -1,11 +1,9 @@
 use Rattle.std.proofs.Common.{refl, sym, arith}
 use Rattle.top_words.specs.Meant.{edit_meant}
-use Rattle.top_reply.specs.Course.{said}
 use Rattle.top_reply.specs.Database.{rebuilt_course}
 use Rattle.top_reply.specs.Edits.{edit_course, edit_reply}
-use Rattle.terrain_top.proofs.Asked.{asked_comes, has_reply}
+use Rattle.terrain_top.proofs.Asked.{asked_comes}
 use Rattle.terrain_top.proofs.Coming.{comes_as, turn_comes}
-use Rattle.terrain_top.proofs.Scripts.{on_ok}
 use Rattle.terrain_top.proofs.Whole.{edit_turns}
 use Rattle.terrain_top.proofs.database_command.answer_opened.Goals as goal
 
@@ -14,33 +12,17 @@ returns-in-Ask-clause-comes g c = λ s held library course h is tells of.
     asked_comes c.in-Ask.query s held course _ _ c.answer_to_query.result (rw c.in-Ask.is at of) (λ reply asked. c.answer_to_query.ensures.says s held reply h is asked)
     c.answer_to_query.ensures.store.only c.answer_to_query.ensures.same c.answer_to_query.ensures.quiet refl (omega arith)
 
-pub returns-in-Ask-clause-told : goal.returns-in-Ask-clause-told
-returns-in-Ask-clause-told g c = λ s held library tells.
-    rw c.in-Ask.is (let has = has_reply c.in-Ask.query s held in on_ok c.answer_to_query.result (said has.0, record { reply = has.0; answers = has.1; course_is = refl }))
-
 pub returns-in-Change-clause-comes : goal.returns-in-Change-clause-comes
 returns-in-Change-clause-comes g c = λ s held library course h is tells of.
     let reply = edit_reply (edit_meant c.in-Change.edit) library s in
     comes_as (edit_course reply) course _ _ c.answer_to_edit.result (sym (rw c.in-Change.is at of))
     (turn_comes (edit_course reply) _ _ c.answer_to_edit.result (edit_turns reply _ _ _ _ c.answer_to_edit.new.opened _ _ c.answer_to_edit.result (c.answer_to_edit.ensures.goes s library h (rw c.in-Change.is at tells))) refl)
 
-pub returns-in-Change-clause-told : goal.returns-in-Change-clause-told
-returns-in-Change-clause-told g c = λ s held library tells.
-    rw c.in-Change.is (on_ok c.answer_to_edit.result (edit_course (edit_reply (edit_meant c.in-Change.edit) library s), refl))
-
 pub returns-in-Apply-clause-comes : goal.returns-in-Apply-clause-comes
 returns-in-Apply-clause-comes g c = λ s held library course h is tells of.
     c.answer_to_apply.ensures.comes s library course h (rw c.in-Apply.is at tells) (rw c.in-Apply.is at of)
-
-pub returns-in-Apply-clause-told : goal.returns-in-Apply-clause-told
-returns-in-Apply-clause-told g c = λ s held library tells.
-    rw c.in-Apply.is (c.answer_to_apply.ensures.told s library (rw c.in-Apply.is at tells))
 
 pub returns-in-Rebuild-clause-comes : goal.returns-in-Rebuild-clause-comes
 returns-in-Rebuild-clause-comes g c = λ s held library course h is tells of.
     comes_as (rebuilt_course s held) course _ _ c.answer_to_rebuild.result (sym (rw c.in-Rebuild.is at of))
     (turn_comes (rebuilt_course s held) _ _ c.answer_to_rebuild.result (c.answer_to_rebuild.ensures.goes s held h is) refl)
-
-pub returns-in-Rebuild-clause-told : goal.returns-in-Rebuild-clause-told
-returns-in-Rebuild-clause-told g c = λ s held library tells.
-    rw c.in-Rebuild.is (on_ok c.answer_to_rebuild.result (rebuilt_course s held, refl))

@@ -2,7 +2,7 @@ use Rattle.std.proofs.Common.{refl, ap, map, ◌∙◌, inr}
 use Rattle.std.specs.FinMap.{get}
 use Rattle.top_words.specs.Meant.{line_meant}
 use Rattle.top_reply.specs.File.{Bytes, NoFile, found_in, script_limit}
-use Rattle.terrain_top.proofs.Scripts.{script_begins, script_stops, script_ends, no_script, has_script, told_script, told_none_read, found_as}
+use Rattle.terrain_top.proofs.Scripts.{script_begins, script_stops, script_ends, no_script, found_as}
 use Rattle.terrain_top.proofs.script.answer_to_apply.Goals as goal
 
 pub returns-in_err-bytes-clause-comes : goal.returns-in_err-bytes-clause-comes
@@ -32,33 +32,13 @@ returns-in-All-clause-comes g c = λ s library course h is applied.
     (ap Bytes c.deref.ensures.value ∙ rw c.in-Bytes.is at read) (rw c.deref-in-Bytes.ensures.value c.in_ok-lines-in-Bytes.ensures)
     (rw c.in-All.is at lines) c.ended.ensures.says c.ended.ensures.memory
 
-pub returns-in-All-clause-told : goal.returns-in-All-clause-told
-returns-in-All-clause-told g c = λ s library is.
-    let found = found_in c.args.script.now script_limit (get library c.args.script.now) in
-    let read = found_as _ library (g.Li.Library.holds c.args.files.now) (λ books. found_in c.args.script.now script_limit (get books c.args.script.now)) is c.in_ok-bytes.ensures.read in
-    told_script library s found c.deref.result.now (map line_meant c.in_ok-lines-in-Bytes.lines.items) c.ended.result
-    (ap Bytes c.deref.ensures.value ∙ rw c.in-Bytes.is at read) c.in_ok-lines-in-Bytes.ensures
-
 pub returns-in-Bytes-clause-comes : goal.returns-in-Bytes-clause-comes
 returns-in-Bytes-clause-comes g c = λ s library course h is applied.
     let lines = c.in_ok-tally-in-Bytes.ensures.goes s library h (c.open_file.ensures.asks.same ∙ is) in
     absurd (rw c.in-Ended.is at lines)
-
-pub returns-in-Bytes-clause-told : goal.returns-in-Bytes-clause-told
-returns-in-Bytes-clause-told g c = λ s library is.
-    let found = found_in c.args.script.now script_limit (get library c.args.script.now) in
-    let read = found_as _ library (g.Li.Library.holds c.args.files.now) (λ books. found_in c.args.script.now script_limit (get books c.args.script.now)) is c.in_ok-bytes.ensures.read in
-    has_script library s found c.deref.result.now (map line_meant c.in_ok-lines-in-Bytes.lines.items)
-    (ap Bytes c.deref.ensures.value ∙ rw c.in-Bytes.is at read) c.in_ok-lines-in-Bytes.ensures
 
 pub returns-clause-comes : goal.returns-clause-comes
 returns-clause-comes g c = λ s library course h is applied.
     let found = found_in c.args.script.now script_limit (get library c.args.script.now) in
     let read = found_as _ library (g.Li.Library.holds c.args.files.now) (λ books. found_in c.args.script.now script_limit (get books c.args.script.now)) is c.in_ok-bytes.ensures.read in
     no_script library s course _ _ c.refused.result found c.deref-in-NoFile.result.now applied (ap NoFile c.deref-in-NoFile.ensures ∙ rw c.in-NoFile.is at read) refl refl refl refl c.refused.ensures.says c.refused.ensures.memory
-
-pub returns-clause-told : goal.returns-clause-told
-returns-clause-told g c = λ s library is.
-    let found = found_in c.args.script.now script_limit (get library c.args.script.now) in
-    let read = found_as _ library (g.Li.Library.holds c.args.files.now) (λ books. found_in c.args.script.now script_limit (get books c.args.script.now)) is c.in_ok-bytes.ensures.read in
-    told_none_read library s found c.deref-in-NoFile.result.now c.refused.result (ap NoFile c.deref-in-NoFile.ensures ∙ rw c.in-NoFile.is at read)
