@@ -170,3 +170,31 @@ fn a_failing_call_stops_a_script(rt: HostRuntime) -> Result<(), Stopped> {
     }
     Ok(())
 }
+
+#[test]
+fn a_failing_list_of_names_stops_a_script(rt: HostRuntime) -> Result<(), Stopped> {
+    let alloc = rt.alloc();
+    let fail = |call| Fail {
+        call,
+        applied: false,
+    };
+    // The beginning is stopped behind its mark, where it asks for the names; then so is the script, which settles it.
+    let mut store = MemStore::new(alloc, &[fail(2), fail(4)])?;
+    let mut files = SureLibrary::new(alloc);
+    files.hold("one", b"remove n00e000 0\n")?;
+    let said = "line 1: refused K2 cell absent n00e000 level 0\nscript done 0 refused 1\n";
+    let table: [Said<'_>; 3] = [
+        (&["init", "0", "0"], Status::StoreFault, ""),
+        (&["apply", "one"], Status::StoreFault, ""),
+        (&["apply", "one"], Status::Refused, said),
+    ];
+    let mut work = Work::new();
+    for (behind, status, text) in &table {
+        let mut out = SureSink::new(alloc);
+        let words = words_of(alloc, behind)?;
+        let ended = run(alloc, &words, &mut store, &mut files, &mut out, &mut work);
+        assert_eq!(rt; out.taken(), text.as_bytes());
+        assert_eq!(rt; ended, *status);
+    }
+    Ok(())
+}
