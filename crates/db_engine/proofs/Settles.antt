@@ -24,9 +24,12 @@ use Rattle.terrain_base.proofs.Stops.{any_stop}
 use Rattle.database.proofs.Settled.{settling_fronts, settling_files, settling_leaves, settling_reads}
 use Rattle.database.proofs.Tests.{key_self}
 use Rattle.database.specs.Answer.{IsStop}
+use Rattle.database.specs.Opening as opens
+use Rattle.database.specs.Opening.{OpensAs}
+use Rattle.database.proofs.Openings.{of_state, not_old, not_refused, one_opening}
 use Rattle.db_files.specs.Serving.{Closing, Filling}
 use Rattle.db_reading.specs.Found.{Known, Found, IsToldBy}
-use Rattle.db_engine.specs.Settling.{Staged, Settles, LeavesSettled, IsOpened, IsRefusal, IsIdle}
+use Rattle.db_engine.specs.Settling.{Staged, Settles, LeavesSettled, IsOpened, IsRefusal, IsLeft, IsIdle}
 use Rattle.database.specs.declared.answer.EngineAnswer.{EngineAnswer}
 use Rattle.database.specs.declared.answer.EngineAnswer.TheVariants as answer
 use Rattle.db_engine.specs.Opened.{Contents}
@@ -161,14 +164,14 @@ leaves_of s files m {log = log} {log' = log'} {held = held} (Err e) is reads r =
 -- ---- refusals
 
 pub refusal_told : (a : EngineAnswer) (files : Files) (held : Option Files) (log log' : Option (List Change)) (work work' : ℕ) → IsToldBy files a → IsIdle files held log log' work work' → IsRefusal a files held log log' work work'
-refusal_told (answer.CellPresent square level) files held log log' work work' t idle = tt
-refusal_told (answer.CellAbsent square level) files held log log' work work' t idle = tt
-refusal_told answer.DatabaseFull files held log log' work work' t idle = tt
-refusal_told (answer.NotEmpty name) files held log log' work work' t idle = tt
+refusal_told (answer.CellPresent square level) files held log log' work work' t idle = t
+refusal_told (answer.CellAbsent square level) files held log log' work work' t idle = t
+refusal_told answer.DatabaseFull files held log log' work work' t idle = t
+refusal_told (answer.NotEmpty name) files held log log' work work' t idle = t
 refusal_told (answer.NotADatabase line) files held log log' work work' t idle = (t, idle)
 refusal_told (answer.Trouble trouble) files held log log' work work' t idle = (t, idle)
-refusal_told (answer.NoTile tile) files held log log' work work' t idle = tt
-refusal_told (answer.TileLost name) files held log log' work work' t idle = tt
+refusal_told (answer.NoTile tile) files held log log' work work' t idle = t
+refusal_told (answer.TileLost name) files held log log' work work' t idle = t
 refusal_told (answer.OldVersion version) files held log log' work work' t idle = (t, idle)
 refusal_told answer.StoreFault files held log log' work work' t idle = tt
 refusal_told answer.NoMemory files held log log' work work' t idle = tt
@@ -185,6 +188,20 @@ refusal_stop (answer.TileLost name) files held log log' work work' t = absurd t
 refusal_stop (answer.OldVersion version) files held log log' work work' t = absurd t
 refusal_stop answer.StoreFault files held log log' work work' t = tt
 refusal_stop answer.NoMemory files held log log' work work' t = tt
+
+-- nothing was changed yet
+pub left_idle : (o : opens.Opening) (files : Files) (held : Option Files) (log log' : Option (List Change)) (work work' : ℕ) → IsIdle files held log log' work work' → IsLeft o files held log log' work work'
+left_idle (opens.Opens s mark) files held log log' work work' idle = tt
+left_idle (opens.OldVersion version) files held log log' work work' idle = idle
+left_idle (opens.NotADatabase line) files held log log' work work' idle = idle
+left_idle (opens.InTrouble trouble) files held log log' work work' idle = idle
+
+-- files that read as a state open as no other
+pub left_read : (o : opens.Opening) (files : Files) (s : State) (mark : ManifestState) (held : Option Files) (log log' : Option (List Change)) (work work' : ℕ) → ReadsAs files s mark → OpensAs files o → IsLeft o files held log log' work work'
+left_read (opens.Opens t other) files s mark held log log' work work' reads o = tt
+left_read (opens.OldVersion version) files s mark held log log' work work' reads o = absurd (not_old version (of_state reads) o)
+left_read (opens.NotADatabase line) files s mark held log log' work work' reads o = absurd (not_refused line (of_state reads) o)
+left_read (opens.InTrouble trouble) files s mark held log log' work work' reads o = absurd (cc (one_opening files (opens.Opens s mark) (opens.InTrouble trouble) reads o))
 
 -- ---- behind the reading
 

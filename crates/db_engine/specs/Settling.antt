@@ -1,5 +1,5 @@
 -- What settling does, and what it leaves.
-use Rattle.std.specs.Prelude.{◌≡◌, ℕ, List, Option, Some, Result, OnOk, OnErr, IfSome}
+use Rattle.std.specs.Prelude.{◌≡◌, ℕ, List, Option, Some, None, Result, OnOk, OnErr, IfSome}
 use Rattle.terrain_base.specs.declared.cell_key.CellKey.{CellKey}
 use Rattle.terrain_base.specs.declared.name.Key.{Key}
 use Rattle.terrain_base.specs.declared.params.Params.{Params}
@@ -12,9 +12,9 @@ use Rattle.db_manifest.specs.Manifest.{ManifestState}
 use Rattle.cell_mosaic.specs.Summaries.{summaries_of}
 use Rattle.tile_deps.specs.Tiles.{touched}
 use Rattle.database.specs.declared.answer.EngineAnswer.{EngineAnswer}
-use Rattle.database.specs.Answer.{opening_of}
+use Rattle.database.specs.Answer.{IsStop, opening_of}
 use Rattle.database.specs.Commands.{existing}
-use Rattle.database.specs.Opening.{OpensAs}
+use Rattle.database.specs.Opening.{Opening, Opens, OldVersion, NotADatabase, InTrouble, OpensAs}
 use Rattle.database.specs.State.{State, AreFiles, ReadsAs, ReadsFor, StandsFor, settled}
 use Rattle.db_files.specs.Serving.{count_existing}
 use Rattle.db_engine.specs.Opened.{Contents}
@@ -67,8 +67,20 @@ pub record IsIdle (files : Files) (held : Option Files) (log log' : Option (List
   pub same_log : log' ≡ log
   pub same_work : work' ≡ work
 
--- an answer that tells how the files open is right, and then the call is idle
+-- an answer that tells how the files open is right, and then the call is idle; one that tells nothing of it is a stop
+abbrev pub IsRefusalBy : Option Opening → EngineAnswer → Files → Option Files → Option (List Change) → Option (List Change)
+    → ℕ → ℕ → Type 0
+IsRefusalBy None answer files held log log' work work' = IsStop answer
+IsRefusalBy (Some opening) answer files held log log' work work' =
+    OpensAs files opening × IsIdle files held log log' work work'
+
 abbrev pub IsRefusal : EngineAnswer → Files → Option Files → Option (List Change) → Option (List Change)
     → ℕ → ℕ → Type 0
-IsRefusal answer files held log log' work work' =
-    IfSome (opening_of answer) (λ opening. OpensAs files opening × IsIdle files held log log' work work')
+IsRefusal answer files held log log' work work' = IsRefusalBy (opening_of answer) answer files held log log' work work'
+
+-- over files that open as no state the call is idle, whatever it answers
+abbrev pub IsLeft : Opening → Files → Option Files → Option (List Change) → Option (List Change) → ℕ → ℕ → Type 0
+IsLeft (Opens state mark) files held log log' work work' = Unit {0}
+IsLeft (OldVersion version) files held log log' work work' = IsIdle files held log log' work work'
+IsLeft (NotADatabase line) files held log log' work work' = IsIdle files held log log' work work'
+IsLeft (InTrouble trouble) files held log log' work work' = IsIdle files held log log' work work'

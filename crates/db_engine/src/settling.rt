@@ -7,10 +7,11 @@ ghost use Rattle.tile_deps.specs.Tiles.{touched};
 ghost use Rattle.database.specs.Answer.{HasCause, OnlyStops};
 ghost use Rattle.database.specs.Cells.{AreRows};
 ghost use Rattle.database.specs.Commands.{closing, settling};
+ghost use Rattle.database.specs.Opening.{Opening, OpensAs};
 ghost use Rattle.database.specs.State.{State, ReadsAs, StandsFor};
 ghost use Rattle.db_files.specs.Serving.{count_existing};
 ghost use Rattle.db_reading.specs.Found.{Known};
-ghost use Rattle.db_engine.specs.Settling.{Staged, Settles, LeavesSettled, IsOpened, IsRefusal, count_settling};
+ghost use Rattle.db_engine.specs.Settling.{Staged, Settles, LeavesSettled, IsOpened, IsRefusal, IsLeft, count_settling};
 
 use crate::Opened;
 use database::EngineAnswer;
@@ -91,6 +92,8 @@ pub fn settle<S: Store>(
         → IsOpened files (S.holds store.new) o) }
     ensures refused { IfErr result (λ answer. (files : Files) → S.holds store.old ≡ Some files
         → IsRefusal answer files (S.holds store.new) (S.log store.old) (S.log store.new) work.old work.new) }
+    ensures left { (files : Files) (opening : Opening) → S.holds store.old ≡ Some files → OpensAs files opening
+        → IsLeft opening files (S.holds store.new) (S.log store.old) (S.log store.new) work.old work.new }
     ensures stop { (files : Files) (s : State) (mark : text.ManifestState) → S.holds store.old ≡ Some files
         → ReadsAs files s mark → OnlyStops result }
     ensures ran { (files : Files) (s : State) (mark : text.ManifestState) → S.holds store.old ≡ Some files

@@ -1,5 +1,5 @@
 //! Making a database, and making it anew.
-ghost use Rattle.std.specs.Prelude.{◌≡◌, ◌≤◌, ◌+◌, [], Some, IfOk, IfErr, OnOk, OnErr, true, false};
+ghost use Rattle.std.specs.Prelude.{◌≡◌, ◌≢◌, ◌≤◌, ◌+◌, [], Some, IfOk, IfErr, OnOk, OnErr, true, false};
 ghost use Rattle.std.specs.FinMap as map;
 ghost use Rattle.terrain_base.specs.Step.{Files};
 ghost use Rattle.terrain_base.specs.Run.{Ran};
@@ -9,7 +9,7 @@ ghost use Rattle.database.specs.State.{State};
 ghost use Rattle.db_files.specs.Serving.{count_existing};
 ghost use Rattle.db_engine.specs.Holding.{Holds, Stands, IsFull, Starts, no_cells};
 ghost use Rattle.db_engine.specs.Opened.{contents_of};
-ghost use Rattle.db_engine.specs.Settling.{Settles, Rebuilds};
+ghost use Rattle.db_engine.specs.Settling.{IsIdle, Settles, Rebuilds};
 
 use crate::Opened;
 use database::EngineAnswer;
@@ -34,6 +34,10 @@ pub fn init<S: Store>(
         (S.holds store.old) (S.log store.old) (S.holds store.new) (S.log store.new) result }
     ensures starts { (files : Files) → S.holds store.old ≡ Some files → map.keys files ≡ []
         → Starts (no_cells params) (S.holds store.new) result }
+    ensures few { (files : Files) → S.holds store.old ≡ Some files → map.keys files ≡ []
+        → work.new ≤ work.old + count_existing (no_cells params) (existing (no_cells params)) }
+    ensures full { (files : Files) → S.holds store.old ≡ Some files → map.keys files ≢ []
+        → IsIdle files (S.holds store.new) (S.log store.old) (S.log store.new) work.old work.new }
     ensures more { work.old ≤ work.new }
     ensures cause { HasCause (S.faults store.old) (S.faults store.new) result }
 {

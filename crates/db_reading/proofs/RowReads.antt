@@ -126,14 +126,14 @@ first_of files params mark rows trouble is f = record {
 }
 
 pub told_of : (files : Files) (params : Params) (mark : ManifestState) (rows : List CellKey) (a : EngineAnswer) → IsManifestOf files params mark rows → IsRowsTrouble files mark rows a → IsToldBy files a
-told_of files params mark rows (answer.CellPresent square level) is t = tt
-told_of files params mark rows (answer.CellAbsent square level) is t = tt
-told_of files params mark rows answer.DatabaseFull is t = tt
-told_of files params mark rows (answer.NotEmpty name) is t = tt
+told_of files params mark rows (answer.CellPresent square level) is t = t
+told_of files params mark rows (answer.CellAbsent square level) is t = t
+told_of files params mark rows answer.DatabaseFull is t = t
+told_of files params mark rows (answer.NotEmpty name) is t = t
 told_of files params mark rows (answer.NotADatabase line) is t = absurd t
 told_of files params mark rows (answer.Trouble trouble) is t = first_of files params mark rows trouble is t
-told_of files params mark rows (answer.NoTile tile) is t = tt
-told_of files params mark rows (answer.TileLost name) is t = tt
+told_of files params mark rows (answer.NoTile tile) is t = t
+told_of files params mark rows (answer.TileLost name) is t = t
 told_of files params mark rows (answer.OldVersion version) is t = absurd t
 told_of files params mark rows answer.StoreFault is t = tt
 told_of files params mark rows answer.NoMemory is t = tt
@@ -157,14 +157,14 @@ stop_of files params mark rows answer.StoreFault s m is t reads = tt
 stop_of files params mark rows answer.NoMemory s m is t reads = tt
 
 pub told_none : (files : Files) (a : EngineAnswer) → IsNoManifest files a → IsToldBy files a
-told_none files (answer.CellPresent square level) t = tt
-told_none files (answer.CellAbsent square level) t = tt
-told_none files answer.DatabaseFull t = tt
-told_none files (answer.NotEmpty name) t = tt
+told_none files (answer.CellPresent square level) t = t
+told_none files (answer.CellAbsent square level) t = t
+told_none files answer.DatabaseFull t = t
+told_none files (answer.NotEmpty name) t = t
 told_none files (answer.NotADatabase line) t = t
 told_none files (answer.Trouble trouble) t = absurd t
-told_none files (answer.NoTile tile) t = tt
-told_none files (answer.TileLost name) t = tt
+told_none files (answer.NoTile tile) t = t
+told_none files (answer.TileLost name) t = t
 told_none files (answer.OldVersion version) t = t
 told_none files answer.StoreFault t = tt
 told_none files answer.NoMemory t = tt

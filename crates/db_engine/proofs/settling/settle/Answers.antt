@@ -2,7 +2,7 @@ use Rattle.std.proofs.Common.{refl, sym, ap, subst, ◌∙◌, ◌≤◌, ◌+�
 use Rattle.terrain_base.proofs.Runs.{at_ok, at_err, not_yet}
 use Rattle.db_engine.specs.Settling.{count_settling}
 use Rattle.db_engine.proofs.Passing.{same_stop, err_is}
-use Rattle.db_engine.proofs.Settles.{known_of, opened_of, opened_reads, settles_of, leaves_of, refusal_told, refusal_stop, done_as, stopped_as, known_held}
+use Rattle.db_engine.proofs.Settles.{known_of, opened_of, opened_reads, settles_of, leaves_of, refusal_told, refusal_stop, left_idle, left_read, done_as, stopped_as, known_held}
 use Rattle.db_engine.proofs.settling.settle.Goals as goal
 
 pub returns-in_err-reading-clause-refused : goal.returns-in_err-reading-clause-refused
@@ -101,3 +101,17 @@ returns-clause-few g c = λ files s m is reads.
     let found = read.found files is in
     let known = known_of files c.in_ok-reading.reading s m _ (read.same ∙ is) found reads in
     subst (λ k. c.finish.new.work ≤ c.args.work.now + count_settling k s) (sym (found.only s m reads).1) (c.in_ok-finish.ensures.few s known)
+
+pub returns-in_err-reading-clause-left : goal.returns-in_err-reading-clause-left
+returns-in_err-reading-clause-left g c = λ files opening is opens.
+    left_idle opening files _ _ _ _ _ (record { same_held = c.in_err-reading.ensures.same ∙ is; same_log = c.in_err-reading.ensures.quiet; same_work = refl })
+
+pub returns-in_err-finish-clause-left : goal.returns-in_err-finish-clause-left
+returns-in_err-finish-clause-left g c = λ files opening is opens.
+    let found = c.in_ok-reading.ensures.found files is in
+    left_read opening files found.state c.in_ok-reading.reading.mark _ _ _ _ _ (opened_reads files c.in_ok-reading.reading found) opens
+
+pub returns-clause-left : goal.returns-clause-left
+returns-clause-left g c = λ files opening is opens.
+    let found = c.in_ok-reading.ensures.found files is in
+    left_read opening files found.state c.in_ok-reading.reading.mark _ _ _ _ _ (opened_reads files c.in_ok-reading.reading found) opens

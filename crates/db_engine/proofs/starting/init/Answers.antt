@@ -45,3 +45,13 @@ pub returns-clause-starts : goal.returns-clause-starts
 returns-clause-starts g c = λ files is none.
     let filling = none_filling _ c.args.params _ files (c.in_ok-names.ensures.same ∙ is) (c.deref.ensures.value ∙ c.new-rows.ensures.items) in
     started c.args.params files _ is none (at_ok (both_done (quiet c.in_ok-names.ensures.same c.in_ok-names.ensures.quiet) (c.in_ok-restart.ensures.ran files (no_cells c.args.params) filling).ok))
+
+pub returns-in_err-restart-clause-few : goal.returns-in_err-restart-clause-few
+returns-in_err-restart-clause-few g c = λ files is none.
+    let filling = none_filling _ c.args.params _ files (c.in_ok-names.ensures.same ∙ is) (c.deref.ensures.value ∙ c.new-rows.ensures.items) in
+    c.in_err-restart.ensures.few files (no_cells c.args.params) filling
+
+pub returns-clause-few : goal.returns-clause-few
+returns-clause-few g c = λ files is none.
+    let filling = none_filling _ c.args.params _ files (c.in_ok-names.ensures.same ∙ is) (c.deref.ensures.value ∙ c.new-rows.ensures.items) in
+    c.in_ok-restart.ensures.few files (no_cells c.args.params) filling
