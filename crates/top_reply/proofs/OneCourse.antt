@@ -28,7 +28,8 @@ use Rattle.top_reply.specs.Passed.{ReachesBy}
 use Rattle.top_reply.specs.Query.{IsInspected, IsReplyTo, IsShownBy, shown_reply}
 use Rattle.top_reply.specs.Reply.{Reply}
 use Rattle.top_reply.specs.Top.{IsCourse, IsCourseOf, Tells, database_reads}
-use Rattle.top_reply.specs.Trial.{IsTotal, IsTrial, IsTrialCourse, bytes_in, trial_course_by}
+use Rattle.db_trial.specs.Trial.{IsTotal, IsTrial, bytes_in}
+use Rattle.top_reply.specs.Trial.{IsTrialCourse, trial_course_by}
 use Rattle.top_reply.proofs.OneLines.{one_list}
 
 -- ---- what is told
