@@ -36,6 +36,10 @@ pub moved : {A : Type 0} (xs : List A) (x : A) (ys : List A) → (xs ++ x ∷ []
 moved [] x ys = refl
 moved (y ∷ xs) x ys = ap (λ list. y ∷ list) (moved xs x ys)
 
+pub take_whole : {A : Type 0} (xs : List A) → take (length xs) xs ≡ xs
+take_whole [] = refl
+take_whole (x ∷ xs) = ap (λ list. x ∷ list) (take_whole xs)
+
 module _ {K X : Type 0} {R : K → K → Ordering} (o : IsTotalOrder R) where
   less_at : (x : K) (front es : List (K × X)) (e : K × X) → T (below_all R x (front ++ e ∷ es)) → R x e.0 ≡ Less
   less_at x [] es e h = less_of _ (and_left _ _ h)

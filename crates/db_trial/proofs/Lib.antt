@@ -3,5 +3,6 @@ mod Cells
 mod Totals
 mod Sequences
 mod Additions
+mod Reports
 mod Scratches
 mod Steps

@@ -15,7 +15,7 @@ use Rattle.db_engine.specs.Holding.{no_cells}
 use Rattle.db_engine.specs.Opened.{Contents}
 use Rattle.db_trial.specs.Sequence.{adding, adds, after_all, tiles_made, tiles_of}
 use Rattle.db_trial.specs.Step.{Keeps, Did, CanAdd, Built}
-use Rattle.db_trial.proofs.Additions.{added_again, at_index, free, got}
+use Rattle.db_trial.proofs.Additions.{added_again, at_index, free, got, take_whole}
 use Rattle.db_trial.proofs.Sequences.{after_more, tiles_more}
 
 -- the entry of a row, whatever the row is where there is none
@@ -46,7 +46,7 @@ key_of_row s rows i row is less at =
 pub can_add : {held other : Option Files} {o grown : Contents} (s : State) (rows : List Summary) (i : ℕ) (row : Summary)
     → Keeps held o s → rows ≡ o.rows → i < length rows → row ≡ get_or rows i row → Keeps other grown (grown_to s i)
     → CanAdd held row (entry_at s i row).1 other grown (grown_to s i)
-can_add {held} {other} {o} {grown} s rows i row keeps same less at kept =
+can_add s rows i row keeps same less at kept =
     let is = same ∙ keeps.stands.holds.rows_is in
     let e = entry_at s i row in
     let reads = keeps.stands.holds.reads in
@@ -74,7 +74,7 @@ pub did_add : {held : Option Files} {grown : Contents} {work work' : ℕ} (s : S
     → rows ≡ summaries_of s.cells → i < length rows → row ≡ get_or rows i row
     → Did (Add (row_key row) (entry_at s i row).1) (grown_to s i) held grown work work' true
     → Keeps held grown (grown_to s (i + 1))
-did_add {held} {grown} {work} {work'} s rows i row is less at did =
+did_add {held = held} {grown = grown} s rows i row is less at did =
     let e = entry_at s i row in
     let inside = within s rows i is less in
     let key = key_of_row s rows i row is less at in
@@ -84,11 +84,11 @@ did_add {held} {grown} {work} {work'} s rows i row is less at did =
     ∙ ap (λ list. after_all list (no_cells s.params)) (sym (more_entries s i row inside)) in
     subst (Keeps held grown) step did.keeps
 
-pub few_added : {held : Option Files} {grown : Contents} {work mid work' : ℕ} (s : State) (rows : List Summary) (i : ℕ) (row : Summary)
+pub few_added : {held : Option Files} {grown : Contents} {mid work' : ℕ} (work : ℕ) (s : State) (rows : List Summary) (i : ℕ) (row : Summary)
     → rows ≡ summaries_of s.cells → i < length rows → row ≡ get_or rows i row → mid ≤ work + tiles_to s i
     → Did (Add (row_key row) (entry_at s i row).1) (grown_to s i) held grown mid work' true
     → work' ≤ work + tiles_to s (i + 1)
-few_added s rows i row is less at so_far did =
+few_added work s rows i row is less at so_far did =
     let e = entry_at s i row in
     let inside = within s rows i is less in
     let key = key_of_row s rows i row is less at in
@@ -99,15 +99,11 @@ few_added s rows i row is less at so_far did =
     let few = did.few in
     omega arith
 
-take_whole : {A : Type 0} (xs : List A) → take (length xs) xs ≡ xs
-take_whole [] = refl
-take_whole (x ∷ xs) = ap (λ list. x ∷ list) (take_whole xs)
-
 -- all of them
-pub built : {held other : Option Files} {o grown : Contents} {work work' : ℕ} (s : State) (rows : List Summary) (i : ℕ)
+pub built : {held other : Option Files} {o grown : Contents} {work' : ℕ} (work : ℕ) (s : State) (rows : List Summary) (i : ℕ)
     → Keeps held o s → rows ≡ o.rows → i ≡ length rows → Keeps other grown (grown_to s i) → work' ≤ work + tiles_to s i
     → Built s other grown work work'
-built {held} {other} {o} {grown} {work} {work'} s rows i keeps same end kept few =
+built {other = other} {grown = grown} {work' = work'} work s rows i keeps same end kept few =
     let whole : take i (entries s.cells) ≡ entries s.cells =
     ap (λ n. take n (entries s.cells)) (end ∙ count_of s rows (same ∙ keeps.stands.holds.rows_is)) ∙ take_whole (entries s.cells) in
     record {

@@ -12,8 +12,8 @@ use Rattle.db_trial.specs.Step.{Keeps, Did, DidAll}
 none_first : (n : ℕ) → n + 0 ≡ 0 + n
 none_first n = omega arith
 
-one_first : (one : ℕ) {whole front last : ℕ} → whole ≡ front + last → one + whole ≡ one + front + last
-one_first one is = omega arith
+one_first : (one whole front last : ℕ) → whole ≡ front + last → one + whole ≡ one + front + last
+one_first one whole front last is = omega arith
 
 pub after_more : (commands : List Command) (c : Command) (s : State) → after_all (commands ++ c ∷ []) s ≡ next c (after_all commands s)
 after_more [] c s = refl
@@ -21,15 +21,15 @@ after_more (d ∷ commands) c s = after_more commands c (next d s)
 
 accepted_more : (commands : List Command) (c : Command) (s : State) → accepted_in (commands ++ c ∷ []) s ≡ accepted_in commands s + cond (is_refused c (after_all commands s)) 0 1
 accepted_more [] c s = none_first (cond (is_refused c s) 0 1)
-accepted_more (d ∷ commands) c s = one_first (cond (is_refused d s) 0 1) (accepted_more commands c (next d s))
+accepted_more (d ∷ commands) c s = one_first (cond (is_refused d s) 0 1) _ _ _ (accepted_more commands c (next d s))
 
 refused_more : (commands : List Command) (c : Command) (s : State) → refused_in (commands ++ c ∷ []) s ≡ refused_in commands s + cond (is_refused c (after_all commands s)) 1 0
 refused_more [] c s = none_first (cond (is_refused c s) 1 0)
-refused_more (d ∷ commands) c s = one_first (cond (is_refused d s) 1 0) (refused_more commands c (next d s))
+refused_more (d ∷ commands) c s = one_first (cond (is_refused d s) 1 0) _ _ _ (refused_more commands c (next d s))
 
 pub tiles_more : (commands : List Command) (c : Command) (s : State) → tiles_made (commands ++ c ∷ []) s ≡ tiles_made commands s + tiles_of c (after_all commands s)
 tiles_more [] c s = none_first (tiles_of c s)
-tiles_more (d ∷ commands) c s = one_first (tiles_of d s) (tiles_more commands c (next d s))
+tiles_more (d ∷ commands) c s = one_first (tiles_of d s) _ _ _ (tiles_more commands c (next d s))
 
 pub did_none : (s : State) (held : Option Files) (o : Contents) (work : ℕ) → Keeps held o s → DidAll [] s held o work work 0 0
 did_none s held o work keeps = record { keeps = keeps; accepted_is = refl; refused_is = refl; few = omega arith }

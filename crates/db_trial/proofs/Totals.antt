@@ -1,5 +1,5 @@
 -- The sum of the lengths of the files that a map holds, name by name.
-use Rattle.std.proofs.Common.{◌≡◌, ℕ, ◌+◌, ◌<◌, List, [], ◌∷◌, ◌++◌, length, map, take, get_or, Option, Some, None, refl, sym, ap, subst, ◌∙◌, T}
+use Rattle.std.proofs.Common.{◌≡◌, ℕ, ◌+◌, ◌<◌, List, [], ◌∷◌, ◌++◌, length, map, take, get_or, Option, Some, None, refl, sym, ap, subst, ◌∙◌, arith, T}
 use Rattle.std.specs.List.{sum_by}
 use Rattle.std.specs.FinMap.{get, keys, entries, entries_sorted, get-entries, find, is_sorted}
 use Rattle.std.proofs.lemmas.List.Sums.{sum_by-cons, sum_by_more, sum-map}
@@ -8,7 +8,7 @@ use Rattle.terrain_base.specs.Name.{by_text}
 use Rattle.terrain_base.specs.Step.{Files}
 use Rattle.database.proofs.Given.{by_text_total}
 use Rattle.db_trial.specs.Trial.{bytes_in, length_of}
-use Rattle.db_trial.proofs.Additions.{find_in, moved}
+use Rattle.db_trial.proofs.Additions.{find_in, moved, take_whole}
 
 abbrev pub lengths : Files → List Key → ℕ
 lengths files names = sum_by (λ name. length_of (get files name)) names
@@ -30,6 +30,11 @@ pub all_lengths : (files : Files) (names : List Key) → names ≡ keys files �
 all_lengths files names is =
     ap (lengths files) is ∙ lengths_are files [] (entries files) refl
     ∙ sym (sum-map (λ (e : Key × List ℕ). length e.1) (entries files))
+
+pub to_the_end : (files : Files) (names : List Key) (i total : ℕ) → total ≡ lengths files (take i names) → i ≡ length names → names ≡ keys files
+    → total ≡ bytes_in files
+to_the_end files names i total so_far end is =
+    so_far ∙ ap (lengths files) (ap (λ n. take n names) end ∙ take_whole names) ∙ all_lengths files names is
 
 pub one_more : (files : Files) (names : List Key) (i : ℕ) (name : Key) → i < length names → name ≡ get_or names i name
     → lengths files (take (i + 1) names) ≡ lengths files (take i names) + length_of (get files name)

@@ -4,6 +4,8 @@
 mod commands;
 mod generated;
 mod scratch;
+#[cfg(test)]
+mod tests;
 mod total;
 mod trial;
 

@@ -136,7 +136,7 @@ one_line count number a b p q =
     let scratch = one_total _ a.scratch b.scratch p.scratch q.scratch in
     λ i. line_by (counts i) (numbers i) (accepted i) (refused i) (cells i) (tiles i) (bytes i) (scratch i)
 
-one_trial : (count number : ℕ) (a b : Course) → IsTrialCourse count number a → IsTrialCourse count number b → a ≡ b
+pub one_trial : (count number : ℕ) (a b : Course) → IsTrialCourse count number a → IsTrialCourse count number b → a ≡ b
 one_trial count number a b p q =
     p.course_is ∙ ap (trial_course_by count number) (one_line count number p.report q.report p.is_trial q.is_trial)
     ∙ sym q.course_is

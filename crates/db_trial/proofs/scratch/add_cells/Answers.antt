@@ -19,7 +19,7 @@ loop-row-preserved g c = record {
   few = λ s k b.
       let here = subst (λ h. Keeps h c.args.opened.now s) (sym c.loop-row.invariant.same) k in
       let can = can_add s _ c.loop-row.row-index _ here c.summaries-rows.ensures.value c.loop-row-test.true c.row-item.is (c.loop-row.invariant.keeps s k b) in
-      few_added s _ c.loop-row.row-index _ (c.summaries-rows.ensures.value ∙ k.stands.holds.rows_is) c.loop-row-test.true c.row-item.is (c.loop-row.invariant.few s k b) (c.in_ok-add_cell.ensures.did _ _ can);
+      few_added _ s _ c.loop-row.row-index _ (c.summaries-rows.ensures.value ∙ k.stands.holds.rows_is) c.loop-row-test.true c.row-item.is (c.loop-row.invariant.few s k b) (c.in_ok-add_cell.ensures.did _ _ can);
   same = c.in_ok-add_cell.ensures.same ∙ c.loop-row.invariant.same;
   more = omega arith;
   faults = omega arith;
@@ -28,4 +28,4 @@ loop-row-preserved g c = record {
 
 pub returns-clause-built : goal.returns-clause-built
 returns-clause-built g c = λ s k b.
-    built s _ c.loop-row.row-index k c.summaries-rows.ensures.value (omega arith) (c.loop-row.invariant.keeps s k b) (c.loop-row.invariant.few s k b)
+    built _ s _ c.loop-row.row-index k c.summaries-rows.ensures.value (omega arith) (c.loop-row.invariant.keeps s k b) (c.loop-row.invariant.few s k b)
