@@ -54,7 +54,7 @@ begun {held} params opened done stands =
 
 -- over a store that holds nothing a beginning is not refused
 no_first : (ks : List Key) (name : Key) → ks ≡ [] → slice_get ks zero ≡ Some name → ⊥
-no_first ks name none first = let other : slice_get {A = Key} [] zero ≡ Some name = ap (λ list. slice_get list zero) (sym none) ∙ first in absurd (cc)
+no_first ks name none first = let other : slice_get [] zero ≡ Some name = ap (λ list. slice_get list zero) (sym none) ∙ first in absurd (cc)
 
 pub full_is_stop : (a : EngineAnswer) (files : Files) (held : Option Files) (log log' : Option (List Change)) → keys files ≡ [] → IsFull a files held log log' → IsStop a
 full_is_stop (CellPresent square level) files held log log' none full = full
@@ -69,10 +69,10 @@ full_is_stop (OldVersion version) files held log log' none full = full
 full_is_stop StoreFault files held log log' none full = tt
 full_is_stop NoMemory files held log log' none full = tt
 
-pub begin_stops : {T : Type 0} {start held : Option Files} {log log' : Option (List Change)} (result : Result T EngineAnswer) → start ≡ Some empty
+pub begin_stops : {T : Type 0} {start : Option Files} (held : Option Files) (log log' : Option (List Change)) (result : Result T EngineAnswer) → start ≡ Some empty
     → IfErr result (λ answer. (files : Files) → start ≡ Some files → IsFull answer files held log log') → OnlyStops result
-begin_stops (Ok value) is refused = tt
-begin_stops {held = held} {log = log} {log' = log'} (Err a) is refused = full_is_stop a empty held log log' no_keys (refused empty is)
+begin_stops held log log' (Ok value) is refused = tt
+begin_stops held log log' (Err a) is refused = full_is_stop a empty held log log' no_keys (refused empty is)
 
 pub begin_keeps : {E : Type 0} {start held : Option Files} {log log' : Option (List Change)} (params : Params) (result : Result Contents E) → start ≡ Some empty
     → IfOk result (λ o. o ≡ contents_of params [] true) → Ran (rebuild_calls empty (no_cells params)) start log held log' result

@@ -18,7 +18,7 @@ use Rattle.db_files.specs.Serving.{count_existing}
 use Rattle.db_report.specs.declared.trial.TrialReport.{TrialReport}
 use Rattle.db_trial.specs.Generated.{generated_list}
 use Rattle.db_trial.specs.Sequence.{adding, after_all, tiles_made}
-use Rattle.db_trial.specs.Step.{Keeps, DidAll, Built}
+use Rattle.db_trial.specs.Step.{Keeps, AreKept, DidAll, Built}
 use Rattle.db_trial.specs.Trial.{IsTrial, begun_tiles, bytes_in, trial_end, trial_params, trial_tiles}
 use Rattle.db_trial.proofs.Additions.{params_stay}
 use Rattle.db_trial.proofs.Beginnings.{total_of}
@@ -41,17 +41,28 @@ pub end_begins : (count number : ℕ) → no_cells (trial_end count number).para
 end_begins count number = ap no_cells (params_stay (generated_list count number) (no_cells trial_params))
 
 -- what the four parts leave, each begun on what those before it left
-pub parts : {held now other after_it : Option Files} {o o' grown grown' : Contents} {work mid last end accepted refused : ℕ} (count number : ℕ) {params : Params} → params ≡ trial_params
+pub parts : {held now other after_it : Option Files} {o o' grown grown' : Contents} {work mid last end accepted refused : ℕ} (count number : ℕ) {params others : Params} → params ≡ trial_params → others ≡ trial_params
     → Keeps held o (no_cells params)
     → ((s : State) → Keeps held o s → DidAll (generated_list count number) s now o' work mid accepted refused)
-    → Keeps other grown (no_cells params)
+    → Keeps other grown (no_cells others)
     → ((s : State) → Keeps now o' s → Keeps other grown (no_cells s.params) → Built s after_it grown' last end)
     → DidAll (generated_list count number) (no_cells trial_params) now o' work mid accepted refused × Built (trial_end count number) after_it grown' last end
-parts {held = held} {other = other} {o = o} {grown = grown} count number is first did second built =
+parts {held = held} {other = other} {o = o} {grown = grown} count number is also first did second built =
     let begun = subst (λ p. Keeps held o (no_cells p)) is first in
-    let again = subst (λ p. Keeps other grown (no_cells p)) is second in
+    let again = subst (λ p. Keeps other grown (no_cells p)) also second in
     let all = did (no_cells trial_params) begun in
     (all, built (trial_end count number) all.keeps (subst (Keeps other grown) (sym (end_begins count number)) again))
+
+-- before the last of them
+pub are_kept : {held now other : Option Files} {o o' grown : Contents} {work mid accepted refused : ℕ} (count number : ℕ) {params others : Params} → params ≡ trial_params → others ≡ trial_params
+    → Keeps held o (no_cells params)
+    → ((s : State) → Keeps held o s → DidAll (generated_list count number) s now o' work mid accepted refused)
+    → Keeps other grown (no_cells others) → AreKept now o' other grown
+are_kept {held = held} {other = other} {o = o} {grown = grown} count number is also first did second = record {
+  state = trial_end count number;
+  keeps = (did (no_cells trial_params) (subst (λ p. Keeps held o (no_cells p)) is first)).keeps;
+  begun = subst (Keeps other grown) (sym (end_begins count number)) (subst (λ p. Keeps other grown (no_cells p)) also second);
+}
 
 -- the report is that of the trial
 pub is_report : {held other : Option Files} {o grown : Contents} {work mid last end : ℕ} (count number : ℕ) (report : TrialReport)
@@ -76,13 +87,16 @@ is_report {o = o} count number report same_count same_number did built cells til
     }
 
 -- four parts make the tiles
-pub few_tiles : {held other : Option Files} {o grown : Contents} {start begun mid again end accepted refused : ℕ} (count number : ℕ)
-    → begun ≤ start + begun_tiles
+pub few_tiles : {held other : Option Files} {o grown : Contents} {begun mid again end accepted refused : ℕ} (start count number : ℕ)
+    {params others : Params} → params ≡ trial_params → others ≡ trial_params
+    → begun ≤ start + count_existing (no_cells params) (existing (no_cells params))
     → DidAll (generated_list count number) (no_cells trial_params) held o begun mid accepted refused
-    → again ≤ mid + begun_tiles
+    → again ≤ mid + count_existing (no_cells others) (existing (no_cells others))
     → Built (trial_end count number) other grown again end
     → end ≤ start + trial_tiles count number
-few_tiles {again = again} {end = end} count number first did second built =
+few_tiles {begun = begun} {mid = mid} {again = again} {end = end} start count number is also first did second built =
+    let one : begun ≤ start + begun_tiles = subst (λ p. begun ≤ start + count_existing (no_cells p) (existing (no_cells p))) is first in
+    let other : again ≤ mid + begun_tiles = subst (λ p. again ≤ mid + count_existing (no_cells p) (existing (no_cells p))) also second in
     let few = did.few in
     let few_again : end ≤ again + tiles_made (adding (trial_end count number)) (no_cells trial_params) =
     subst (λ s. end ≤ again + tiles_made (adding (trial_end count number)) s) (end_begins count number) built.few in

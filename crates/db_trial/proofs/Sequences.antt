@@ -87,3 +87,30 @@ did_refused {commands = commands} {c = c} {s = s} {held' = held'} {o' = o'} {b =
 -- one generated command more
 pub generated_more : (number k : ℕ) → generated_list (k + 1) number ≡ generated_list k number ++ generated (drawn_at number k) ∷ []
 generated_more number k = map-range_with_len_more (λ j. generated (drawn_at number j)) 0 k k (omega arith)
+
+one_with : {held' : Option Files} {o' : Contents} {work work' accepted refused : ℕ} (number k accepted' refused' : ℕ) (s : State)
+    → accepted' ≡ accepted → refused' ≡ refused
+    → DidAll (generated_list k number ++ generated (drawn_at number k) ∷ []) s held' o' work work' accepted refused
+    → DidAll (generated_list (k + 1) number) s held' o' work work' accepted' refused'
+one_with {held'} {o'} {work} {work'} {accepted} {refused} number k accepted' refused' s a r all =
+    subst (λ n. DidAll (generated_list (k + 1) number) s held' o' work work' accepted' n) (sym r)
+    (subst (λ n. DidAll (generated_list (k + 1) number) s held' o' work work' n refused) (sym a)
+    (subst (λ list. DidAll list s held' o' work work' accepted refused) (sym (generated_more number k)) all))
+
+pub more_accepted : {held held' : Option Files} {o o' : Contents} {work mid work' accepted refused : ℕ} {b : Bool} (number k drawn accepted' refused' : ℕ) (s : State)
+    → drawn ≡ drawn_at number k → b ≡ true → accepted' ≡ accepted + 1 → refused' ≡ refused
+    → DidAll (generated_list k number) s held o work mid accepted refused
+    → Did (generated drawn) (after_all (generated_list k number) s) held' o' mid work' b
+    → DidAll (generated_list (k + 1) number) s held' o' work work' accepted' refused'
+more_accepted {held' = held'} {o' = o'} {mid = mid} {work' = work'} {b = b} number k drawn accepted' refused' s is passed a r all one =
+    one_with number k accepted' refused' s a r
+    (did_accepted passed all (subst (λ d. Did (generated d) (after_all (generated_list k number) s) held' o' mid work' b) is one))
+
+pub more_refused : {held held' : Option Files} {o o' : Contents} {work mid work' accepted refused : ℕ} {b : Bool} (number k drawn accepted' refused' : ℕ) (s : State)
+    → drawn ≡ drawn_at number k → b ≡ false → accepted' ≡ accepted → refused' ≡ refused + 1
+    → DidAll (generated_list k number) s held o work mid accepted refused
+    → Did (generated drawn) (after_all (generated_list k number) s) held' o' mid work' b
+    → DidAll (generated_list (k + 1) number) s held' o' work work' accepted' refused'
+more_refused {held' = held'} {o' = o'} {mid = mid} {work' = work'} {b = b} number k drawn accepted' refused' s is not_so a r all one =
+    one_with number k accepted' refused' s a r
+    (did_refused not_so all (subst (λ d. Did (generated d) (after_all (generated_list k number) s) held' o' mid work' b) is one))

@@ -105,13 +105,9 @@ called {T} {c = c} {s = s} {o = o} {o' = o'} {held = held} {held' = held'} {log 
 
 -- ---- as a generated command
 
-pub did_as : {T : Type 0} {c d : Command} {s : State} {held' : Option Files} {o' : Contents} {work work' : ℕ} {result : Result Bool EngineAnswer} {r : Result T EngineAnswer}
+pub did_as : {T : Type 0} {c d : Command} (s : State) (held' : Option Files) (o' : Contents) (work work' : ℕ) (result : Result Bool EngineAnswer) (r : Result T EngineAnswer)
     → c ≡ d → result ≡ told_of r → IfOk (told_of r) (Did c s held' o' work work') × OnlyStops (told_of r)
     → IfOk result (Did d s held' o' work work')
-did_as {d = d} {s = s} {held' = held'} {o' = o'} {work = work} {work' = work'} {r = r} same is both =
+did_as {d = d} s held' o' work work' result r same is both =
     let told : IfOk (told_of r) (Did d s held' o' work work') = subst (λ c. IfOk (told_of r) (Did c s held' o' work work')) same both.0 in
     subst (λ x. IfOk x (Did d s held' o' work work')) (sym is) told
-
-pub stop_as : {T : Type 0} {P : Type 0} {result : Result Bool EngineAnswer} {r : Result T EngineAnswer}
-    → result ≡ told_of r → P × OnlyStops (told_of r) → OnlyStops result
-stop_as is both = subst OnlyStops (sym is) both.1
