@@ -87,14 +87,15 @@ is_report {o = o} count number report same_count same_number did built cells til
     }
 
 -- four parts make the tiles
-pub few_tiles : {held other : Option Files} {o grown : Contents} {begun mid again end accepted refused : ℕ} (start count number : ℕ)
+pub few_tiles : {at_first from_scratch held other : Option Files} {first_o scratch_o o grown : Contents} {begun mid again end accepted refused : ℕ} (start count number : ℕ)
     {params others : Params} → params ≡ trial_params → others ≡ trial_params
+    → Keeps at_first first_o (no_cells params) → Keeps from_scratch scratch_o (no_cells others)
     → begun ≤ start + count_existing (no_cells params) (existing (no_cells params))
     → DidAll (generated_list count number) (no_cells trial_params) held o begun mid accepted refused
     → again ≤ mid + count_existing (no_cells others) (existing (no_cells others))
     → Built (trial_end count number) other grown again end
     → end ≤ start + trial_tiles count number
-few_tiles {begun = begun} {mid = mid} {again = again} {end = end} start count number is also first did second built =
+few_tiles {begun = begun} {mid = mid} {again = again} {end = end} start count number is also kept built_on first did second built =
     let one : begun ≤ start + begun_tiles = subst (λ p. begun ≤ start + count_existing (no_cells p) (existing (no_cells p))) is first in
     let other : again ≤ mid + begun_tiles = subst (λ p. again ≤ mid + count_existing (no_cells p) (existing (no_cells p))) also second in
     let few = did.few in

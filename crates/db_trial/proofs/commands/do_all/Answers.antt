@@ -16,7 +16,7 @@ loop-k-preserved g c =
       | then-branch w ↦ record {
           did = λ s k.
               let so_far = c.loop-k.invariant.did s k in
-              more_accepted c.args.number c.loop-k.k _ _ _ s drawn w.if-branch w.accepted-is w.refused-is so_far (c.in_ok-do_generated.ensures.did _ so_far.keeps);
+              more_accepted c.args.number c.loop-k.k _ _ _ s drawn w.if-branch.true w.accepted-is w.refused-is so_far (c.in_ok-do_generated.ensures.did _ so_far.keeps);
           counted = omega arith;
           more = omega arith;
           faults = omega arith;
@@ -24,7 +24,7 @@ loop-k-preserved g c =
       | else-branch w ↦ record {
           did = λ s k.
               let so_far = c.loop-k.invariant.did s k in
-              more_refused c.args.number c.loop-k.k _ _ _ s drawn w.if-branch w.accepted-is w.refused-is so_far (c.in_ok-do_generated.ensures.did _ so_far.keeps);
+              more_refused c.args.number c.loop-k.k _ _ _ s drawn w.if-branch.false w.accepted-is w.refused-is so_far (c.in_ok-do_generated.ensures.did _ so_far.keeps);
           counted = omega arith;
           more = omega arith;
           faults = omega arith;

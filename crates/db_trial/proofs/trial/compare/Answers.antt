@@ -12,7 +12,7 @@ returns-clause-trial g c =
 pub returns-clause-few : goal.returns-clause-few
 returns-clause-few g c =
     let both = parts c.args.count c.args.number (are_params _ refl refl) (are_params _ refl refl) c.in_ok-opened.ensures.keeps c.in_ok-counts.ensures.did c.in_ok-grown.ensures.keeps c.in_ok-add_cells.ensures.built in
-    few_tiles _ c.args.count c.args.number (are_params _ refl refl) (are_params _ refl refl) c.in_ok-opened.ensures.few both.0 c.in_ok-grown.ensures.few both.1
+    few_tiles _ c.args.count c.args.number (are_params _ refl refl) (are_params _ refl refl) c.in_ok-opened.ensures.keeps c.in_ok-grown.ensures.keeps c.in_ok-opened.ensures.few both.0 c.in_ok-grown.ensures.few both.1
 
 pub add_cells-requires : goal.add_cells-requires
 add_cells-requires g c =
