@@ -69,16 +69,18 @@ done_so : {T : Type 0} (c : Command) (s : State) (o o' : Contents) (held held' :
     → refusal_of c s ≡ None → EditRan (edit_of c) s held held' log log' o' work work' result → Ends (edit_of c) s held' o' result → Turned (edit_of c) o o' result
     → IfOk (told_of result) (Did c s held' o' work work') × OnlyStops (told_of result)
 done_so c s o o' held held' work work' (Ok value) none ran ends turned =
-    let is = next_by c s None none in
-    (record {
-      keeps = record {
-        stands = subst (Stands held' o') (sym is) ends.stands;
-        files = subst (λ t. IfSome held' (λ files. AreFiles files t)) (sym is) ends.files;
-        live = ap (λ now. now.live) turned.ok;
-      };
-      accepted_is = ap (λ x. not (is_some x)) (sym none);
-      few = subst (λ n. work' ≤ work + n) (sym (λ i. cond (is_some (none i)) 0 (count_existing (is i) (touched s.params.cap (key_of (edit_of c)).square)))) ran.few;
-    }, tt)
+    let is = next_by c s None none in (
+      record {
+        keeps = record {
+          stands = subst (Stands held' o') (sym is) ends.stands;
+          files = subst (λ t. IfSome held' (λ files. AreFiles files t)) (sym is) ends.files;
+          live = ap (λ now. now.live) turned.ok;
+        };
+        accepted_is = ap (λ x. not (is_some x)) (sym none);
+        few = subst (λ n. work' ≤ work + n) (sym (λ i. cond (is_some (none i)) 0 (count_existing (is i) (touched s.params.cap (key_of (edit_of c)).square)))) ran.few;
+      },
+      tt,
+    )
 done_so {T} c s o o' held held' work work' (Err a) none ran ends turned = stop_told T _ a ran.stop
 
 refused_so : {T : Type 0} (c : Command) (s : State) (o o' : Contents) (held held' : Option Files) {log log' : Option (List Change)} {faults faults' : ℕ} (work work' : ℕ) (answer : EngineAnswer) (result : Result T EngineAnswer)

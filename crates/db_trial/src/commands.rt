@@ -25,7 +25,11 @@ fn told(done: Result<(), EngineAnswer>) -> Result<bool, EngineAnswer>
 {
     match done {
         Ok(()) => Ok(true),
-        Err(EngineAnswer::CellPresent { .. } | EngineAnswer::CellAbsent { .. } | EngineAnswer::DatabaseFull) => Ok(false),
+        Err(
+            EngineAnswer::CellPresent { .. }
+            | EngineAnswer::CellAbsent { .. }
+            | EngineAnswer::DatabaseFull,
+        ) => Ok(false),
         Err(answer) => Err(answer),
     }
 }

@@ -14,21 +14,21 @@ loop-k-preserved g c =
     let drawn = c.mix-drawn.ensures ∙ ap (λ n. mixed ((c.args.number + n) % 2 ^ 64)) c.from.ensures in
     elim c.if-branch.branch [
       | then-branch w ↦ record {
-          did = λ s k.
-              let so_far = c.loop-k.invariant.did s k in
-              more_accepted c.args.number c.loop-k.k _ _ _ s drawn w.if-branch.true w.accepted-is w.refused-is so_far (c.in_ok-do_generated.ensures.did _ so_far.keeps);
-          counted = omega arith;
-          more = omega arith;
-          faults = omega arith;
-        }
+        did = λ s k.
+            let so_far = c.loop-k.invariant.did s k in
+            more_accepted c.args.number c.loop-k.k _ _ _ s drawn w.if-branch.true w.accepted-is w.refused-is so_far (c.in_ok-do_generated.ensures.did _ so_far.keeps);
+        counted = omega arith;
+        more = omega arith;
+        faults = omega arith;
+      }
       | else-branch w ↦ record {
-          did = λ s k.
-              let so_far = c.loop-k.invariant.did s k in
-              more_refused c.args.number c.loop-k.k _ _ _ s drawn w.if-branch.false w.accepted-is w.refused-is so_far (c.in_ok-do_generated.ensures.did _ so_far.keeps);
-          counted = omega arith;
-          more = omega arith;
-          faults = omega arith;
-        }
+        did = λ s k.
+            let so_far = c.loop-k.invariant.did s k in
+            more_refused c.args.number c.loop-k.k _ _ _ s drawn w.if-branch.false w.accepted-is w.refused-is so_far (c.in_ok-do_generated.ensures.did _ so_far.keeps);
+        counted = omega arith;
+        more = omega arith;
+        faults = omega arith;
+      }
     ]
 
 pub returns-clause-did : goal.returns-clause-did
