@@ -28,7 +28,8 @@ use Rattle.top_reply.specs.Passed.{ReachesBy}
 use Rattle.top_reply.specs.Query.{IsInspected, IsReplyTo, IsShownBy, shown_reply}
 use Rattle.top_reply.specs.Reply.{Reply}
 use Rattle.top_reply.specs.Top.{IsCourse, IsCourseOf, Tells, database_reads}
-use Rattle.top_reply.specs.Trial.{IsTotal, IsTrial, IsTrialCourse, bytes_in, trial_course_by}
+use Rattle.db_trial.specs.Trial.{IsTotal, IsTrial, bytes_in}
+use Rattle.top_reply.specs.Trial.{IsTrialCourse, trial_course_by}
 use Rattle.top_reply.proofs.OneLines.{one_list}
 
 -- ---- what is told
@@ -136,7 +137,7 @@ one_line count number a b p q =
     let scratch = one_total _ a.scratch b.scratch p.scratch q.scratch in
     λ i. line_by (counts i) (numbers i) (accepted i) (refused i) (cells i) (tiles i) (bytes i) (scratch i)
 
-one_trial : (count number : ℕ) (a b : Course) → IsTrialCourse count number a → IsTrialCourse count number b → a ≡ b
+pub one_trial : (count number : ℕ) (a b : Course) → IsTrialCourse count number a → IsTrialCourse count number b → a ≡ b
 one_trial count number a b p q =
     p.course_is ∙ ap (trial_course_by count number) (one_line count number p.report q.report p.is_trial q.is_trial)
     ∙ sym q.course_is

@@ -1,0 +1,4 @@
+pub mod Generated
+pub mod Sequence
+pub mod Step
+pub mod Trial
