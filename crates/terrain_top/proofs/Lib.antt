@@ -7,4 +7,5 @@ pub mod Meanings
 pub mod Scripts
 pub mod Settled
 pub mod Tiles
+pub mod Trials
 pub mod Whole
