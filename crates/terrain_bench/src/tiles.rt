@@ -18,10 +18,12 @@ pub(crate) fn sum(alloc: Global, count: u32) -> Result<u64, NoMemory> {
     let mut work = Work::new();
     let mut sum: u64 = 0;
     for _ in 0..count {
-        if let Ok(files) = make_tile(alloc, &mut cells, &mut store, &[], &params, tile, &mut work) {
-            sum = sum.wrapping_add(files.terrain.len() as u64);
-            sum = sum.wrapping_add(files.note.len() as u64);
-        }
+        let made = make_tile(alloc, &mut cells, &mut store, &[], &params, tile, &mut work);
+        let Ok(files) = made else {
+            return Err(NoMemory);
+        };
+        sum = sum.wrapping_add(files.terrain.len() as u64);
+        sum = sum.wrapping_add(files.note.len() as u64);
     }
     Ok(sum)
 }
