@@ -1,10 +1,9 @@
 -- A database that is begun is kept, and what is told of one at the end of a trial.
-use Rattle.std.proofs.Common.{◌≡◌, ℕ, ◌+◌, ◌≤◌, ◌⊎◌, inl, inr, true, zero, List, [], length, map, Option, Some, None, Result, Ok, Err, IfOk, IfErr, IfSome, IsErrOf, refl, sym, ap, subst, ◌∙◌, arith}
+use Rattle.std.proofs.Common.{◌≡◌, ℕ, ◌⊎◌, inl, inr, true, zero, List, [], map, Option, Some, Result, Ok, Err, IfOk, IfErr, IfSome, IsErrOf, refl, sym, ap, subst, ◌∙◌, arith}
 use Rattle.std.specs.Prelude.{slice_get}
 use Rattle.std.specs.FinMap.{empty, keys}
 use Rattle.manifest_lines.specs.declared.state.State.TheVariants.{Closed}
 use Rattle.terrain_base.specs.Cause.{Rose}
-use Rattle.terrain_base.specs.declared.cell_key.CellKey.{CellKey}
 use Rattle.terrain_base.specs.declared.name.Key.{Key}
 use Rattle.terrain_base.specs.declared.params.Params.{Params}
 use Rattle.terrain_base.specs.declared.store.Change.{Change}

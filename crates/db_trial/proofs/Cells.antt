@@ -1,5 +1,5 @@
 -- The key and the cell that a number tells.
-use Rattle.std.proofs.Common.{◌≡◌, ℕ, ◌+◌, ◌<◌, ◌/◌, ◌%◌, ◌==◌, ◌≢◌, Bool, true, false, List, Result, Ok, Err, IfOk, IfErr, IsOk, refl, sym, ap, ◌∙◌, arith}
+use Rattle.std.proofs.Common.{◌≡◌, ℕ, ◌+◌, ◌<◌, ◌/◌, ◌%◌, ◌==◌, ◌≢◌, true, false, List, Result, Ok, Err, IfOk, IfErr, IsOk, sym, ap, ◌∙◌, arith}
 use Rattle.std.specs.Prelude.{if◌then◌else◌}
 use Rattle.std.proofs.lemmas.Bool.Decides.{nat_tests}
 use Rattle.std.proofs.Math.Nat.{mod-eq_of_lt}
@@ -14,7 +14,7 @@ use Rattle.dted_cell.specs.Trouble.{IsCellAt}
 use Rattle.dted_cell.proofs.Squares.{square_of_is}
 use Rattle.dted_cell.proofs.WholeCells.{by_cell}
 use Rattle.cell_mosaic.specs.Whole.{key_in}
-use Rattle.database.specs.Commands.{Command, Add, Replace, Remove}
+use Rattle.database.specs.Commands.{Add, Replace, Remove}
 use Rattle.database.specs.declared.answer.EngineAnswer.{EngineAnswer}
 use Rattle.database.specs.declared.answer.EngineAnswer.TheVariants.{NoMemory}
 use Rattle.db_trial.specs.Generated.{generated, generated_cell, generated_key}

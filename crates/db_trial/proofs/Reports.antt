@@ -1,11 +1,9 @@
 -- What a trial tells, from what its parts leave.
-use Rattle.std.proofs.Common.{◌≡◌, ℕ, ◌+◌, ◌≤◌, ◌-ℤ◌, ◌≤ℤ◌, pos, ℤ, List, length, Option, Some, refl, sym, ap, subst, ◌∙◌, arith}
+use Rattle.std.proofs.Common.{◌≡◌, ℕ, ◌+◌, ◌≤◌, ◌-ℤ◌, ◌≤ℤ◌, pos, ℤ, length, Option, Some, sym, ap, subst, ◌∙◌, arith}
 use mathlib.Core.HLevel.{is_prop→PathP}
 use Rattle.std.specs.Coded.{le_prop}
 use Rattle.std.proofs.Math.Dec.{T_prop}
-use Rattle.std.specs.FinMap.{keys}
 use Rattle.terrain_base.specs.declared.params.Params.{Params}
-use Rattle.terrain_base.specs.declared.summary.Summary.{Summary}
 use Rattle.terrain_base.specs.Step.{Files}
 use Rattle.availability.specs.Count.{tile_count_of}
 use Rattle.cell_mosaic.specs.Summaries.{summaries_of}
@@ -17,7 +15,7 @@ use Rattle.db_engine.proofs.CellRows.{count_is}
 use Rattle.db_files.specs.Serving.{count_existing}
 use Rattle.db_report.specs.declared.trial.TrialReport.{TrialReport}
 use Rattle.db_trial.specs.Generated.{generated_list}
-use Rattle.db_trial.specs.Sequence.{adding, after_all, tiles_made}
+use Rattle.db_trial.specs.Sequence.{adding, tiles_made}
 use Rattle.db_trial.specs.Step.{Keeps, AreKept, DidAll, Built}
 use Rattle.db_trial.specs.Trial.{IsTrial, begun_tiles, bytes_in, trial_end, trial_params, trial_tiles}
 use Rattle.db_trial.proofs.Additions.{params_stay}

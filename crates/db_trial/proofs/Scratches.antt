@@ -1,5 +1,5 @@
 -- A database that grows by the entries of a state, one after the other.
-use Rattle.std.proofs.Common.{◌≡◌, ℕ, ◌+◌, ◌≤◌, ◌<◌, true, List, [], ◌∷◌, ◌++◌, length, map, take, drop, get_or, Option, Some, None, refl, sym, ap, subst, ◌∙◌, arith}
+use Rattle.std.proofs.Common.{◌≡◌, ℕ, ◌+◌, ◌≤◌, ◌<◌, true, List, [], ◌∷◌, ◌++◌, length, map, take, drop, get_or, Option, sym, ap, subst, ◌∙◌, arith}
 use Rattle.std.specs.FinMap.{get, entries}
 use Rattle.std.proofs.lemmas.List.{get_or-map, length-map, map-append, take_more}
 use Rattle.terrain_base.specs.declared.cell_key.CellKey.{CellKey}
@@ -13,7 +13,7 @@ use Rattle.database.specs.Commands.{Add, next, refusal_of}
 use Rattle.database.specs.State.{State}
 use Rattle.db_engine.specs.Holding.{no_cells}
 use Rattle.db_engine.specs.Opened.{Contents}
-use Rattle.db_trial.specs.Sequence.{adding, adds, after_all, tiles_made, tiles_of}
+use Rattle.db_trial.specs.Sequence.{adds, after_all, tiles_made, tiles_of}
 use Rattle.db_trial.specs.Step.{Keeps, Did, CanAdd, Built}
 use Rattle.db_trial.proofs.Additions.{added_again, at_index, free, got, take_whole}
 use Rattle.db_trial.proofs.Sequences.{after_more, tiles_more}

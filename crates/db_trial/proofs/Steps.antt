@@ -16,7 +16,6 @@ use Rattle.db_engine.specs.Holding.{Stands}
 use Rattle.db_engine.specs.Opened.{Contents}
 use Rattle.db_engine.specs.Rows.{refusal_by_rows}
 use Rattle.db_engine.proofs.CellRows.{refusal_is}
-use Rattle.db_trial.specs.Sequence.{is_refused, tiles_of}
 use Rattle.db_trial.specs.Step.{Keeps, Did, told_of}
 
 -- ---- what the answer tells

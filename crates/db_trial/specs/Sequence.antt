@@ -1,9 +1,8 @@
 -- Commands one after the other: the state that they leave, how many are accepted, and how many tiles are made.
-use Rattle.std.specs.Prelude.{ℕ, ◌+◌, Bool, is_some, cond, List, [], ◌∷◌, map, Option, Some, None}
+use Rattle.std.specs.Prelude.{ℕ, ◌+◌, Bool, is_some, cond, List, [], ◌∷◌, map}
 use Rattle.std.specs.FinMap.{entries}
 use Rattle.terrain_base.specs.declared.cell_key.CellKey.{CellKey}
 use Rattle.tile_deps.specs.Tiles.{touched}
-use Rattle.database.specs.declared.answer.EngineAnswer.{EngineAnswer}
 use Rattle.database.specs.Commands.{Command, Add, edit_of, key_of, next, refusal_of}
 use Rattle.database.specs.State.{State}
 use Rattle.db_files.specs.Serving.{count_existing}

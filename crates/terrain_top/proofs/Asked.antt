@@ -1,5 +1,5 @@
 -- The reply to what is asked of a database is not empty, and nothing else is changed.
-use Rattle.std.proofs.Common.{◌≡◌, ◌⊎◌, ℕ, ℤ, ◌<◌, ◌≤◌, Bool, true, false, List, [], ◌∷◌, length, Option, Some, None, Result, Ok, Err, IfErr, IfOk, refl, sym, ap, subst, ◌∙◌, inl, inr, arith}
+use Rattle.std.proofs.Common.{◌≡◌, ◌⊎◌, ℕ, ℤ, ◌<◌, ◌≤◌, Bool, true, false, List, [], ◌∷◌, length, Option, Some, None, Result, Ok, Err, IfErr, IfOk, sym, subst, inl, inr, arith}
 use Rattle.std.specs.Prelude.{if◌then◌else◌}
 use Rattle.std.specs.FinMap.{get}
 use Rattle.terrain_base.specs.declared.name.Key.TheVariants.{Terrain, Note}
@@ -8,7 +8,6 @@ use Rattle.terrain_base.specs.Step.{Files}
 use Rattle.terrain_base.proofs.Runs.{not_yet}
 use Rattle.mesh_codec.specs.declared.refusal.TileRefusal.{TileRefusal}
 use Rattle.mesh_codec.specs.Refusal.{tile_refusal_of}
-use Rattle.mesh_codec.specs.Tile.{header_in}
 use Rattle.cell_mosaic.specs.Summaries.{summaries_of}
 use Rattle.availability.specs.Existence.{exists_of}
 use Rattle.tile_deps.specs.Squares.{squares_of, touching}
@@ -22,7 +21,7 @@ use Rattle.top_reply.specs.declared.stop.Stop.{Stop}
 use Rattle.top_reply.specs.declared.stop.Stop.TheVariants as stop
 use Rattle.top_reply.specs.Course.{Course, World, StopsIn, text_turn}
 use Rattle.top_reply.specs.Database.{IsAsked}
-use Rattle.top_reply.specs.Query.{IsInspected, IsReplyTo, IsShown, IsShownBy, deps_reply, shown_by}
+use Rattle.top_reply.specs.Query.{IsInspected, IsReplyTo, IsShownBy, deps_reply, shown_by}
 use Rattle.top_reply.specs.Reply.{Reply, cause_of, refused_reply, text_reply}
 use Rattle.terrain_top.specs.declared.answer.Answer.{Answer}
 use Rattle.terrain_top.specs.Comes.{Comes}

@@ -1,24 +1,24 @@
 -- How commands come to their last text, and pass when it is printed.
-use Rattle.std.proofs.Common.{◌≡◌, ◌⊎◌, ℕ, ◌+◌, ◌<◌, ◌≤◌, List, [], ◌∷◌, ◌++◌, length, Option, option_map, Result, Ok, Err, IfErr, IfOk, refl, sym, ap, subst, ◌∙◌, inl, inr, arith, append_assoc}
+use Rattle.std.proofs.Common.{◌≡◌, ◌⊎◌, ℕ, ◌<◌, ◌≤◌, List, [], ◌∷◌, ◌++◌, length, Option, option_map, Result, Ok, Err, IfErr, IfOk, refl, sym, ap, subst, ◌∙◌, inl, inr, arith, append_assoc}
 use Rattle.std.specs.Prelude.{IsErrAnd}
 use Rattle.terrain_base.specs.declared.store.Change.{Change}
 use Rattle.terrain_base.specs.Sink.{FrontTaken}
 use Rattle.terrain_base.specs.Step.{Files}
-use Rattle.terrain_base.proofs.Runs.{all_some, quiet, not_yet}
+use Rattle.terrain_base.proofs.Runs.{quiet, not_yet}
 use Rattle.top_reply.specs.declared.status.Status.{Status}
 use Rattle.top_reply.specs.declared.stop.Stop.{Stop}
 use Rattle.top_reply.specs.declared.stop.Stop.TheVariants as stop
 use Rattle.top_reply.specs.Course.{Answered, Course, Goes, StopsAt, StopsIn, Turn, TurnsDone, World, said, text_turn, world}
 use Rattle.top_reply.specs.Reply.{Reply}
 use Rattle.top_reply.specs.Status.{IsAnswer, stop_status}
-use Rattle.top_reply.proofs.Courses.{one_turn, stops_here, stops_more, stops_on, turns_both, turns_none}
+use Rattle.top_reply.proofs.Courses.{one_turn, stops_here, stops_on, turns_both, turns_none}
 use Rattle.terrain_top.specs.declared.answer.Answer.{Answer}
 use Rattle.terrain_top.specs.declared.answer.Ending.{Ending}
 use Rattle.terrain_top.specs.declared.answer.Ending.TheVariants as ending
 use Rattle.terrain_top.specs.Comes.{Comes, Ends, Passes}
 use Rattle.terrain_top.specs.Effects.{OnlyMemory}
 use Rattle.terrain_top.specs.Says.{Says, status_at, status_by}
-use Rattle.terrain_top.specs.Turns.{OnlyTurnGoes, TurnDone, TurnGoes, TurnOf, TurnStops}
+use Rattle.terrain_top.specs.Turns.{OnlyTurnGoes, TurnDone, TurnOf, TurnStops}
 
 -- ---- stops
 

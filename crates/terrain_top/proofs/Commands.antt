@@ -1,5 +1,5 @@
 -- How each command comes to its last text.
-use Rattle.std.proofs.Common.{◌≡◌, ◌⊎◌, ℕ, ◌<◌, ◌≤◌, List, [], ◌∷◌, length, Option, Some, None, Result, Ok, Err, IfErr, IfOk, IfSome, refl, sym, ap, subst, ◌∙◌, arith}
+use Rattle.std.proofs.Common.{◌≡◌, ◌⊎◌, ℕ, ◌<◌, ◌≤◌, List, [], ◌∷◌, length, Option, Some, None, Result, Ok, Err, IfErr, IfOk, IfSome, refl, sym, subst}
 use Rattle.std.specs.FinMap.{get}
 use Rattle.terrain_base.specs.declared.params.Params.{Params}
 use Rattle.terrain_base.specs.Library.{LibraryFiles}
@@ -30,8 +30,7 @@ use Rattle.terrain_top.specs.declared.answer.Answer.{Answer}
 use Rattle.terrain_top.specs.Comes.{Comes}
 use Rattle.terrain_top.specs.Says.{Says}
 use Rattle.terrain_top.specs.Told.{HasOfDatabase}
-use Rattle.terrain_top.specs.Turns.{TurnOf}
-use Rattle.terrain_top.proofs.Coming.{comes_as, not_begun, said_comes, turn_comes}
+use Rattle.terrain_top.proofs.Coming.{comes_as, not_begun, said_comes}
 use Rattle.terrain_top.proofs.EditsGo.{some_cause, some_line}
 use Rattle.terrain_top.proofs.Scripts.{on_ok}
 

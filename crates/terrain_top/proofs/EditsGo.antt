@@ -1,5 +1,5 @@
 -- What the engine's answer to an edit comes to.
-use Rattle.std.proofs.Common.{◌≡◌, ◌⊎◌, ℕ, ◌+◌, ◌<◌, ◌≤◌, true, List, [], ◌++◌, length, codes, string_bytes, Option, Some, None, Result, Ok, Err, IfErr, IfOk, IsErrOf, refl, sym, ap, subst, ◌∙◌, inl, inr, arith, length-append}
+use Rattle.std.proofs.Common.{◌≡◌, ◌⊎◌, ℕ, ◌<◌, true, List, [], length, codes, Option, Some, None, Result, Ok, Err, IfOk, refl, sym, ap, subst, ◌∙◌, inl, inr, arith, length-append}
 use Rattle.std.specs.Prelude.{IsErrAnd, IsSomeAnd}
 use Rattle.terrain_base.specs.declared.square.Square.{Square}
 use Rattle.terrain_base.specs.declared.store.Change.{Change}
@@ -12,7 +12,7 @@ use Rattle.database.specs.declared.answer.EngineAnswer.TheVariants as answer
 use Rattle.database.specs.Answer.{IsStop}
 use Rattle.database.specs.Commands.{Command, edit_of, refusal_of}
 use Rattle.database.specs.State.{State}
-use Rattle.db_engine.specs.Edited.{Edited, EditedBy, EditRan, EditRefused, Refused, Turned}
+use Rattle.db_engine.specs.Edited.{Edited, EditedBy, EditRan, Refused, Turned}
 use Rattle.db_engine.specs.Holding.{Holds}
 use Rattle.db_engine.specs.Opened.{Contents}
 use Rattle.db_engine.specs.Rows.{refusal_by_rows}
@@ -25,7 +25,7 @@ use Rattle.top_reply.specs.declared.stop.Stop.TheVariants as stop
 use Rattle.top_reply.specs.Edits.{EditReply, Wanted, command_reply_by, done_edit, done_line, refused_edit, tiles_in, wanted_reply}
 use Rattle.top_reply.specs.Reply.{cause_by, cause_of, done_reply, refused_reply}
 use Rattle.terrain_top.specs.declared.answer.Answer.{Answer}
-use Rattle.terrain_top.specs.EditGoes.{Answers, EditDone, EditGoes, tiles_of}
+use Rattle.terrain_top.specs.EditGoes.{Answers, EditGoes, tiles_of}
 use Rattle.terrain_top.specs.Effects.{OnlyMemory, StopsBy}
 use Rattle.terrain_top.specs.Says.{IsTold, Says}
 use Rattle.terrain_top.specs.Turns.{TurnStops}

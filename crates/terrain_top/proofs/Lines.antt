@@ -1,10 +1,9 @@
 -- What a line comes to, and how lines follow each other.
-use Rattle.std.proofs.Common.{◌≡◌, ◌⊎◌, ℕ, ◌+◌, ◌<◌, ◌≤◌, Bool, true, false, List, [], ◌∷◌, ◌++◌, length, take, drop, get_or, map, Option, Some, None, option_map, Result, Ok, Err, IfErr, refl, sym, ap, subst, ◌∙◌, inl, inr, arith, add-zero, zero-add}
+use Rattle.std.proofs.Common.{◌≡◌, ◌⊎◌, ℕ, ◌+◌, ◌<◌, ◌≤◌, Bool, true, false, List, [], ◌∷◌, ◌++◌, length, take, drop, get_or, map, Some, None, option_map, Result, Ok, Err, IfErr, refl, sym, ap, subst, ◌∙◌, arith, add-zero, zero-add}
 use Rattle.std.specs.Prelude.{IsErrAnd, cond}
 use Rattle.std.proofs.lemmas.List.{take_all, take_more, map-append, length-map, length-take-le, take-append-drop}
 use Rattle.terrain_base.specs.Library.{LibraryFiles}
 use Rattle.terrain_base.specs.Sink.{FrontTaken}
-use Rattle.terrain_base.proofs.Runs.{not_yet}
 use Rattle.top_words.specs.Script.{Line, Passed, Change, NoCommand}
 use Rattle.database.specs.State.{State}
 use Rattle.db_engine.specs.Holding.{Holds}
@@ -12,10 +11,10 @@ use Rattle.db_engine.specs.Opened.{Contents}
 use Rattle.db_report.specs.Done.{script_mark_of}
 use Rattle.top_reply.specs.declared.stop.Stop.{Stop}
 use Rattle.top_reply.specs.declared.stop.Stop.TheVariants as stop
-use Rattle.top_reply.specs.Course.{StopsAt, StopsIn, Turn, TurnsDone, World}
-use Rattle.top_reply.specs.Edits.{EditReply, Wanted, status_by, wanted_reply}
+use Rattle.top_reply.specs.Course.{StopsIn, TurnsDone, World}
+use Rattle.top_reply.specs.Edits.{Wanted, status_by, wanted_reply}
 use Rattle.top_reply.specs.Lines.{Numbered, after_lines, commands_of, done_in, line_reply, refused_in, turn_by, turns_of, wanted_at}
-use Rattle.top_reply.proofs.Courses.{one_turn, stops_here, stops_more, stops_on, turns_both, turns_none}
+use Rattle.top_reply.proofs.Courses.{one_turn, stops_more, stops_on, turns_both, turns_none}
 use Rattle.terrain_top.specs.declared.answer.Answer.{Answer}
 use Rattle.terrain_top.specs.declared.answer.Ending.{Ending}
 use Rattle.terrain_top.specs.declared.answer.Ending.TheVariants as ending

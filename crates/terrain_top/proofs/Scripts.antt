@@ -1,5 +1,5 @@
 -- How a script goes.
-use Rattle.std.proofs.Common.{◌≡◌, ◌⊎◌, ℕ, ◌<◌, List, [], ◌∷◌, ◌++◌, length, Option, Some, Result, Ok, Err, IfOk, IfSome, refl, sym, ap, subst, ◌∙◌, inl, inr, arith}
+use Rattle.std.proofs.Common.{◌≡◌, ◌⊎◌, ℕ, List, [], ◌∷◌, ◌++◌, Option, Some, Result, Ok, Err, IfOk, IfSome, refl, sym, ap, subst, ◌∙◌, inr, arith}
 use Rattle.std.specs.Prelude.{IsErrAnd, nat_lt}
 use Rattle.terrain_base.specs.Library.{LibraryFiles}
 use Rattle.top_words.specs.Script.{AreLines, Line}
@@ -18,7 +18,7 @@ use Rattle.top_reply.proofs.OneLines.{one_list}
 use Rattle.terrain_base.proofs.Runs.{quiet}
 use Rattle.terrain_top.specs.declared.answer.Answer.{Answer}
 use Rattle.terrain_top.specs.declared.script.Tally.{Tally}
-use Rattle.terrain_top.specs.Comes.{Comes, Ends}
+use Rattle.terrain_top.specs.Comes.{Comes}
 use Rattle.terrain_top.specs.Effects.{OnlyMemory}
 use Rattle.terrain_top.specs.LinesGo.{LinesDone, ended_reply}
 use Rattle.terrain_top.specs.Says.{Says}

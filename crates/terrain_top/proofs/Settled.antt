@@ -1,5 +1,5 @@
 -- How a command goes behind settling.
-use Rattle.std.proofs.Common.{◌≡◌, ℕ, ◌+◌, ◌≤◌, List, [], ◌∷◌, length, Option, Some, None, Result, Ok, Err, IfErr, IfOk, refl, sym, ap, subst, ◌∙◌, arith}
+use Rattle.std.proofs.Common.{◌≡◌, ℕ, ◌+◌, ◌≤◌, List, [], ◌∷◌, Option, Some, Result, Ok, Err, IfErr, IfOk, refl, sym, ap, subst, ◌∙◌, arith}
 use Rattle.terrain_base.specs.declared.store.Change.{Change}
 use Rattle.terrain_base.specs.Library.{LibraryFiles}
 use Rattle.terrain_base.specs.Overwrite.{all_changed}
@@ -31,7 +31,7 @@ use Rattle.terrain_top.specs.Effects.{StopsBy}
 use Rattle.terrain_top.specs.Says.{IsTold, Says}
 use Rattle.terrain_top.specs.Told.{HasOfDatabase, HasOpened}
 use Rattle.terrain_top.proofs.Coming.{comes_as, comes_behind, in_turn, said_comes}
-use Rattle.terrain_top.proofs.EditsGo.{at_stop, some_cause, stop_untold, told_says}
+use Rattle.terrain_top.proofs.EditsGo.{at_stop, some_cause, stop_untold}
 
 -- ---- the database is settled
 

@@ -1,5 +1,5 @@
 -- How a trial goes: its course is one turn, which changes no store that the caller lends.
-use Rattle.std.proofs.Common.{◌≡◌, ℕ, ◌+◌, ◌≤◌, List, [], ◌∷◌, length, codes, Option, Result, Ok, Err, IfOk, refl, sym, subst, inr, arith, length-append}
+use Rattle.std.proofs.Common.{ℕ, ◌+◌, ◌≤◌, List, [], codes, Option, Result, Ok, Err, IfOk, refl, sym, subst, inr, arith, length-append}
 use Rattle.terrain_base.specs.declared.store.Change.{Change}
 use Rattle.terrain_base.specs.Step.{Files}
 use Rattle.terrain_base.proofs.Runs.{quiet}
@@ -8,7 +8,7 @@ use Rattle.db_report.specs.Trial.{trial_line_of}
 use Rattle.db_trial.specs.Trial.{IsTrial, trial_tiles}
 use Rattle.top_reply.specs.declared.stop.Stop.{Stop}
 use Rattle.top_reply.specs.declared.stop.Stop.TheVariants as stop
-use Rattle.top_reply.specs.Course.{Course, Turn, World, StopsIn, world}
+use Rattle.top_reply.specs.Course.{Course, Turn, StopsIn, world}
 use Rattle.top_reply.specs.Reply.{done_reply}
 use Rattle.top_reply.specs.Trial.{IsTrialCourse, trial_course_by}
 use Rattle.top_reply.proofs.OneCourse.{one_trial}
@@ -16,7 +16,6 @@ use Rattle.terrain_top.specs.declared.answer.Answer.{Answer}
 use Rattle.terrain_top.specs.Comes.{Comes}
 use Rattle.terrain_top.specs.Effects.{OnlyMemory}
 use Rattle.terrain_top.specs.Says.{Says}
-use Rattle.terrain_top.specs.Turns.{TurnOf}
 use Rattle.terrain_top.proofs.Coming.{comes_as, not_begun, turn_comes}
 
 -- the turn of a trial by its line

@@ -1,6 +1,6 @@
 -- How a database begins, is made anew, and is edited.
-use Rattle.std.proofs.Common.{◌≡◌, ℕ, zero, ◌+◌, ◌<◌, ◌≤◌, List, [], ◌∷◌, length, Option, Some, None, Result, Ok, Err, IfErr, IfOk, OnErr, refl, sym, ap, subst, ◌∙◌, arith}
-use Rattle.std.specs.Prelude.{◌≢◌, IsErrAnd, slice_get}
+use Rattle.std.proofs.Common.{◌≡◌, ℕ, zero, ◌+◌, ◌≤◌, List, [], ◌∷◌, Option, Some, Result, Ok, Err, IfErr, IfOk, sym, ap, subst, ◌∙◌, arith}
+use Rattle.std.specs.Prelude.{◌≢◌, slice_get}
 use Rattle.database.specs.Answer.{IsStop}
 use Rattle.std.specs.FinMap.{keys}
 use Rattle.terrain_base.specs.declared.name.Key.{Key}
@@ -19,16 +19,15 @@ use Rattle.db_engine.specs.Opened.{Contents}
 use Rattle.db_engine.specs.Settling.{IsIdle}
 use Rattle.db_report.specs.Done.{created_line_of, rebuilt_line_of}
 use Rattle.top_reply.specs.declared.stop.Stop.{Stop}
-use Rattle.top_reply.specs.declared.stop.Stop.TheVariants as stop
-use Rattle.top_reply.specs.Database.{created_turn, init_by, rebuilt_course}
+use Rattle.top_reply.specs.Database.{init_by, rebuilt_course}
 use Rattle.top_reply.specs.Edits.{EditReply, edit_course, tiles_in}
 use Rattle.top_reply.specs.Reply.{cause_of, done_reply, refused_reply}
 use Rattle.terrain_top.specs.declared.answer.Answer.{Answer}
 use Rattle.terrain_top.specs.EditGoes.{EditGoes, tiles_of}
 use Rattle.terrain_top.specs.Effects.{OnlyMemory, StopsBy}
 use Rattle.terrain_top.specs.Says.{IsTold, Says}
-use Rattle.terrain_top.specs.Turns.{TurnGoes, TurnOf}
-use Rattle.terrain_top.proofs.EditsGo.{at_memory, at_stop, some_cause, some_line, stop_untold, tiles_are, told_says}
+use Rattle.terrain_top.specs.Turns.{TurnOf}
+use Rattle.terrain_top.proofs.EditsGo.{at_memory, at_stop, some_cause, some_line, stop_untold, tiles_are}
 
 -- ---- a database begins
 

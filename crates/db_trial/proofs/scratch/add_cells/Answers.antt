@@ -1,6 +1,6 @@
 use Rattle.std.proofs.Common.{sym, subst, ◌∙◌, arith}
 use Rattle.db_trial.specs.Step.{Keeps}
-use Rattle.db_trial.proofs.Scratches.{built, can_add, did_add, entry_at, few_added, grown_to}
+use Rattle.db_trial.proofs.Scratches.{built, can_add, did_add, few_added}
 use Rattle.db_trial.proofs.scratch.add_cells.Goals as goal
 
 pub add_cell-requires : goal.add_cell-requires

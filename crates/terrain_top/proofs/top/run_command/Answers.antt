@@ -1,4 +1,4 @@
-use Rattle.std.proofs.Common.{refl, ◌∙◌, ap, option_map, ◌++◌}
+use Rattle.std.proofs.Common.{◌∙◌, ap, option_map, ◌++◌}
 use Rattle.terrain_top.proofs.Coming.{passed_on, printed, not_printed}
 use Rattle.terrain_top.proofs.top.run_command.Goals as goal
 
