@@ -4,13 +4,12 @@ use dted_cell::CellTrouble;
 use std::test::Fail as Failed;
 use terrain_base::Work;
 
-// No trial meets a trouble of a cell.
-const NONE: Option<CellTrouble> = None;
-
 #[test]
 fn the_totals_of_a_trial_are_equal(rt: HostRuntime) -> Result<(), Failed> {
     let mut work = Work::new();
+    let trouble: Option<CellTrouble> = None;
     let report = run_trial(rt.alloc(), 3, 1, &mut work)?;
+    assert!(rt; trouble.is_none());
     assert_eq!(rt; (report.count, report.number), (3, 1));
     assert_eq!(rt; (report.accepted, report.refused), (2, 1));
     assert_eq!(rt; (report.cells, report.tiles), (2, 46));

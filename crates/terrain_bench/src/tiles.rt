@@ -19,7 +19,7 @@ pub(crate) fn sum(alloc: Global, count: u32) -> Result<u64, NoMemory> {
     let mut sum: u64 = 0;
     for _ in 0..count {
         let made = make_tile(alloc, &mut cells, &mut store, &[], &params, tile, &mut work);
-        let Ok(files) = made else {
+        let Some(files) = made.ok() else {
             return Err(NoMemory);
         };
         sum = sum.wrapping_add(files.terrain.len() as u64);
