@@ -7,10 +7,9 @@ use resample::tile_grid;
 use std::alloc::Global;
 use terrain_base::{CellLevel, Grid, NoMemory, Square, SureStore, TileId};
 
-/// A level 2 cell of a generated landscape, by its square's degrees east of 180 degrees west and north of the south
-/// pole. `None` where they are out of range.
-pub(crate) fn cells(alloc: Global, lon: u16, lat: u16) -> Result<Option<WholeCells>, NoMemory> {
-    let Some(square) = Square::of(lon, lat) else {
+// A level 2 cell of a generated landscape at n46e007. `None` never comes.
+fn cells(alloc: Global) -> Result<Option<WholeCells>, NoMemory> {
+    let Some(square) = Square::of(187, 136) else {
         return Ok(None);
     };
     let text = generate(alloc, 9, square, CellLevel::Two)?;
@@ -24,9 +23,9 @@ pub(crate) fn cells(alloc: Global, lon: u16, lat: u16) -> Result<Option<WholeCel
     }
 }
 
-/// The sum of a height of each of so many grids at level 14, inside the cell n46e007, modulo 2^64.
+/// The sum of a height of each of so many grids at level 14, inside the cell, modulo 2^64.
 pub(crate) fn sum(alloc: Global, count: u32) -> Result<u64, NoMemory> {
-    let Some(mut cells) = cells(alloc, 187, 136)? else {
+    let Some(mut cells) = cells(alloc)? else {
         return Ok(0);
     };
     let mut store = SureStore::new(alloc);
