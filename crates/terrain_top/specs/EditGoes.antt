@@ -37,8 +37,8 @@ Answers reply (Ok done) result = IfOk result (Says reply) × OnlyMemory result
 Answers reply (Err refusal) result = IfOk result (IsTold refusal) × IfErr result (StopsBy refusal)
 
 -- it is done but for its text, and the store holds the cells of the state after it
-pub record EditDone (reply : EditReply) (held held' : Option Files) (log log' : Option (List Change)) (opened' : Contents)
-    (work work' : ℕ) (answer : Answer) : Type 0 where
+pub record EditDone (reply : EditReply) (held held' : Option Files) (log log' : Option (List Change))
+    (opened' : Contents) (work work' : ℕ) (answer : Answer) : Type 0 where
   pub turn : TurnDone (status_by reply.refused) (edit_turn reply) held held' log log' work work' answer
   pub holds : Holds held' opened' reply.next
   pub live : opened'.live ≡ true

@@ -19,7 +19,8 @@ abbrev pub OnlyMemory : {T : Type 0} → Result T Stop → Type 0
 OnlyMemory result = IfErr result (λ stop. stop ≡ NoMemory)
 
 -- only the library or want of memory stops a call that asks for files, and the library keeps what it holds
-pub record Asks {Li T : Type 0} (holds : Li → Option LibraryFiles) (faults : Li → ℕ) (before now : Li) (result : Result T Stop) : Type 0 where
+pub record Asks {Li T : Type 0} (holds : Li → Option LibraryFiles) (faults : Li → ℕ) (before now : Li)
+    (result : Result T Stop) : Type 0 where
   pub same : holds now ≡ holds before
   pub cause : StopHasCause Input (faults before) (faults now) result
   pub only : IfErr result (λ stop. (stop ≡ Input) ⊎ (stop ≡ NoMemory))
@@ -30,7 +31,8 @@ pub record OnStore {T : Type 0} (before now : ℕ) (result : Result T Stop) : Ty
   pub only : IfErr result (λ stop. (stop ≡ Store) ⊎ (stop ≡ NoMemory))
 
 -- a store as it was: what it holds, its log and its count of faults
-pub record StoreStays {St : Type 0} (holds : St → Option Files) (log : St → Option (List Change)) (faults : St → ℕ) (before now : St) : Type 0 where
+pub record StoreStays {St : Type 0} (holds : St → Option Files) (log : St → Option (List Change)) (faults : St → ℕ)
+    (before now : St) : Type 0 where
   pub held : holds now ≡ holds before
   pub logged : log now ≡ log before
   pub count : faults now ≡ faults before

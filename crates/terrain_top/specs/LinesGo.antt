@@ -1,5 +1,6 @@
 -- How lines of a script went.
-use Rattle.std.specs.Prelude.{◌≡◌, ℕ, ◌+◌, ◌≤◌, Bool, true, false, List, ◌++◌, Option, Some, None, codes, Result, Ok, Err, IfErr, nat_lt, option_map}
+use Rattle.std.specs.Prelude.{◌≡◌, ℕ, ◌+◌, ◌≤◌, Bool, true, false, List, ◌++◌, Option, Some, None}
+use Rattle.std.specs.Prelude.{codes, Result, Ok, Err, IfErr, nat_lt, option_map}
 use Rattle.terrain_base.specs.Library.{LibraryFiles}
 use Rattle.terrain_base.specs.Sink.{FrontTaken}
 use Rattle.top_words.specs.Script.{Line, Passed, Change, NoCommand}

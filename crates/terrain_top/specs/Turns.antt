@@ -20,14 +20,15 @@ pub record TurnDone (status : Status) (turn : Turn) (held held' : Option Files) 
   pub tiles : work' ≤ work + turn.tiles
 
 -- it stopped: the library is asked before anything is changed
-abbrev pub TurnStops : Stop → List Step → Option Files → Option Files → Option (List Change) → Option (List Change) → Type 0
+abbrev pub TurnStops : Stop → List Step → Option Files → Option Files → Option (List Change) → Option (List Change)
+    → Type 0
 TurnStops Input steps held held' log log' = (held' ≡ held) × (log' ≡ log)
 TurnStops Store steps held held' log log' = SomeDone steps held log held' log'
 TurnStops Output steps held held' log log' = ⊥
 TurnStops NoMemory steps held held' log log' = SomeDone steps held log held' log'
 
-abbrev pub TurnGoes : Status → Turn → Option Files → Option Files → Option (List Change) → Option (List Change) → ℕ → ℕ
-    → Result Answer Stop → Type 0
+abbrev pub TurnGoes : Status → Turn → Option Files → Option Files → Option (List Change) → Option (List Change)
+    → ℕ → ℕ → Result Answer Stop → Type 0
 TurnGoes status turn held held' log log' work work' (Ok answer) =
     TurnDone status turn held held' log log' work work' answer
 TurnGoes status turn held held' log log' work work' (Err e) = TurnStops e turn.steps held held' log log'

@@ -16,8 +16,8 @@ pub(crate) enum Ending {
     Refused,
 }
 
-/// The ending of a command that was not stopped, and what is printed of it last: bytes, since a stored note is printed as
-/// it stands.
+/// The ending of a command that was not stopped, and what is printed of it last: bytes, since a stored note is
+/// printed as it stands.
 #[derive(Debug, Drop)]
 pub(crate) struct Answer {
     pub(crate) ending: Ending,

@@ -39,7 +39,8 @@ pub(crate) fn answer_to_audit<Li: Library>(
     files: &mut Li,
     file: &str,
 ) -> Result<Answer, Stop>
-    ensures says { IfOk result (λ answer. IfSome (Li.holds files.old) (λ held. Says (audit_reply file.now (map.get held file.now)) answer)) }
+    ensures says { IfOk result (λ answer. IfSome (Li.holds files.old) (λ held. Says (audit_reply file.now
+        (map.get held file.now)) answer)) }
     ensures asks { Asks Li.holds Li.faults files.old files.new result }
 {
     match open_file(alloc, files, file, TILE_LIMIT)? {

@@ -32,7 +32,9 @@ pub(crate) fn answer_to_init<St: Store>(
     params: Params,
     work: &mut Work,
 ) -> Result<Answer, Stop>
-    ensures goes { (files : Files) → St.holds store.old ≡ Some files → TurnOf (init_course params files) (St.holds store.old) (St.holds store.new) (St.log store.old) (St.log store.new) work.old work.new result }
+    ensures goes { (files : Files) → St.holds store.old ≡ Some files
+        → TurnOf (init_course params files) (St.holds store.old) (St.holds store.new) (St.log store.old)
+        (St.log store.new) work.old work.new result }
     ensures store { OnStore (St.faults store.old) (St.faults store.new) result }
     ensures more { work.old ≤ work.new }
 {
@@ -53,7 +55,10 @@ pub(crate) fn answer_to_rebuild<St: Store>(
     work: &mut Work,
 ) -> Result<Answer, Stop>
     requires { opened.old.live ≡ true }
-    ensures goes { (s : State) (files : Files) → Holds (St.holds store.old) opened.old s → St.holds store.old ≡ Some files → TurnOf (rebuilt_course s files) (St.holds store.old) (St.holds store.new) (St.log store.old) (St.log store.new) work.old work.new result }
+    ensures goes { (s : State) (files : Files) → Holds (St.holds store.old) opened.old s
+        → St.holds store.old ≡ Some files
+        → TurnOf (rebuilt_course s files) (St.holds store.old) (St.holds store.new) (St.log store.old)
+        (St.log store.new) work.old work.new result }
     ensures store { OnStore (St.faults store.old) (St.faults store.new) result }
     ensures more { work.old ≤ work.new }
 {

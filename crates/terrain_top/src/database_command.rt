@@ -36,7 +36,12 @@ fn answer_opened<St: Store, Li: Library, Si: Sink>(
     work: &mut Work,
 ) -> Result<Answer, Stop>
     requires { opened.old.live ≡ true }
-    ensures comes { (s : State) (held : Files) (library : LibraryFiles) (course : Course) → Holds (St.holds store.old) opened.old s → St.holds store.old ≡ Some held → Tells (database_reads (database_meant command.now)) (Li.holds files.old) library → IsOpenedCourse (database_meant command.now) library s held course → Comes course (world (St.holds store.old) (St.log store.old) (Si.taken out.old) work.old) (world (St.holds store.new) (St.log store.new) (Si.taken out.new) work.new) result }
+    ensures comes { (s : State) (held : Files) (library : LibraryFiles) (course : Course)
+        → Holds (St.holds store.old) opened.old s → St.holds store.old ≡ Some held
+        → Tells (database_reads (database_meant command.now)) (Li.holds files.old) library
+        → IsOpenedCourse (database_meant command.now) library s held course → Comes course
+        (world (St.holds store.old) (St.log store.old) (Si.taken out.old) work.old)
+        (world (St.holds store.new) (St.log store.new) (Si.taken out.new) work.new) result }
     ensures same { Li.holds files.new ≡ Li.holds files.old }
     ensures library { StopHasCause Stop.Input (Li.faults files.old) (Li.faults files.new) result }
     ensures reads { IsErrOf result Stop.Input → database_reads (database_meant command.now) ≡ true }
@@ -63,8 +68,15 @@ pub(crate) fn answer_to_database<St: Store, Li: Library, Si: Sink>(
     command: &DatabaseCommand<'_>,
     work: &mut Work,
 ) -> Result<Answer, Stop>
-    ensures comes { (held : Files) (library : LibraryFiles) (opening : Opening) (course : Course) → St.holds store.old ≡ Some held → Tells (database_reads (database_meant command.now)) (Li.holds files.old) library → OpensAs held opening → IsDatabaseCourse (database_meant command.now) library held opening course → Comes course (world (St.holds store.old) (St.log store.old) (Si.taken out.old) work.old) (world (St.holds store.new) (St.log store.new) (Si.taken out.new) work.new) result }
-    ensures told { (held : Files) (library : LibraryFiles) → St.holds store.old ≡ Some held → Tells (database_reads (database_meant command.now)) (Li.holds files.old) library → IfOk result (λ answer. HasOfDatabase (database_meant command.now) library held) }
+    ensures comes { (held : Files) (library : LibraryFiles) (opening : Opening) (course : Course)
+        → St.holds store.old ≡ Some held
+        → Tells (database_reads (database_meant command.now)) (Li.holds files.old) library → OpensAs held opening
+        → IsDatabaseCourse (database_meant command.now) library held opening course → Comes course
+        (world (St.holds store.old) (St.log store.old) (Si.taken out.old) work.old)
+        (world (St.holds store.new) (St.log store.new) (Si.taken out.new) work.new) result }
+    ensures told { (held : Files) (library : LibraryFiles) → St.holds store.old ≡ Some held
+        → Tells (database_reads (database_meant command.now)) (Li.holds files.old) library
+        → IfOk result (λ answer. HasOfDatabase (database_meant command.now) library held) }
     ensures same { Li.holds files.new ≡ Li.holds files.old }
     ensures library { StopHasCause Stop.Input (Li.faults files.old) (Li.faults files.new) result }
     ensures reads { IsErrOf result Stop.Input → database_reads (database_meant command.now) ≡ true }

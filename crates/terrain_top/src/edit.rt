@@ -60,7 +60,8 @@ fn check_cell(alloc: Global, bytes: Vec<u8>) -> Result<CellRead, Stop>
 
 // The cell of a file.
 fn read_cell_of<Li: Library>(alloc: Global, files: &mut Li, file: &str) -> Result<CellRead, Stop>
-    ensures wanted { IfOk result (λ read. IfSome (Li.holds files.old) (λ held. CellWanted (found_in file.now cell_limit (map.get held file.now)) read)) }
+    ensures wanted { IfOk result (λ read. IfSome (Li.holds files.old) (λ held. CellWanted
+        (found_in file.now cell_limit (map.get held file.now)) read)) }
     ensures asks { Asks Li.holds Li.faults files.old files.new result }
 {
     match open_file(alloc, files, file, CELL_LIMIT)? {
@@ -75,7 +76,8 @@ pub(crate) fn read_wanted<Li: Library>(
     files: &mut Li,
     edit: &Edit<'_>,
 ) -> Result<Wanted, Stop>
-    ensures wanted { (library : LibraryFiles) → Tells (edit_reads (edit_meant edit.now)) (Li.holds files.old) library → IfOk result (λ read. wanted_meant read ≡ wanted (edit_meant edit.now) library) }
+    ensures wanted { (library : LibraryFiles) → Tells (edit_reads (edit_meant edit.now)) (Li.holds files.old) library
+        → IfOk result (λ read. wanted_meant read ≡ wanted (edit_meant edit.now) library) }
     ensures asks { Asks Li.holds Li.faults files.old files.new result }
     ensures reads { IsErrOf result Stop.Input → edit_reads (edit_meant edit.now) ≡ true }
 {
@@ -114,8 +116,8 @@ fn told(
     }
 }
 
-/// Does an edit whose file was read. Where it is refused since something is wrong with a stored cell, the database may not
-/// be used any more.
+/// Does an edit whose file was read. Where it is refused since something is wrong with a stored cell, the database
+/// may not be used any more.
 pub(crate) fn carry_out<St: Store>(
     alloc: Global,
     store: &mut St,
@@ -124,7 +126,9 @@ pub(crate) fn carry_out<St: Store>(
     work: &mut Work,
 ) -> Result<Answer, Stop>
     requires { opened.old.live ≡ true }
-    ensures goes { (s : State) → Holds (St.holds store.old) opened.old s → EditGoes (wanted_reply (wanted_meant wanted) s) (St.holds store.old) (St.holds store.new) (St.log store.old) (St.log store.new) opened.new work.old work.new result }
+    ensures goes { (s : State) → Holds (St.holds store.old) opened.old s
+        → EditGoes (wanted_reply (wanted_meant wanted) s) (St.holds store.old) (St.holds store.new)
+        (St.log store.old) (St.log store.new) opened.new work.old work.new result }
     ensures store { OnStore (St.faults store.old) (St.faults store.new) result }
     ensures more { work.old ≤ work.new }
 {
@@ -161,7 +165,10 @@ pub(crate) fn answer_to_edit<St: Store, Li: Library>(
     work: &mut Work,
 ) -> Result<Answer, Stop>
     requires { opened.old.live ≡ true }
-    ensures goes { (s : State) (library : LibraryFiles) → Holds (St.holds store.old) opened.old s → Tells (edit_reads (edit_meant edit.now)) (Li.holds files.old) library → EditGoes (edit_reply (edit_meant edit.now) library s) (St.holds store.old) (St.holds store.new) (St.log store.old) (St.log store.new) opened.new work.old work.new result }
+    ensures goes { (s : State) (library : LibraryFiles) → Holds (St.holds store.old) opened.old s
+        → Tells (edit_reads (edit_meant edit.now)) (Li.holds files.old) library
+        → EditGoes (edit_reply (edit_meant edit.now) library s) (St.holds store.old) (St.holds store.new)
+        (St.log store.old) (St.log store.new) opened.new work.old work.new result }
     ensures same { Li.holds files.new ≡ Li.holds files.old }
     ensures library { StopHasCause Stop.Input (Li.faults files.old) (Li.faults files.new) result }
     ensures reads { IsErrOf result Stop.Input → edit_reads (edit_meant edit.now) ≡ true }

@@ -21,7 +21,8 @@ pub(crate) enum FileRead {
 
 // The file outside.
 fn fetch<Li: Library>(files: &mut Li, file: &str, limit: usize) -> Result<Fetched, Stop>
-    ensures fetched { IfOk result (λ fetched. IfSome (Li.holds files.old) (λ held. Fetches fetched (map.get held file.now) limit)) }
+    ensures fetched { IfOk result (λ fetched. IfSome (Li.holds files.old) (λ held. Fetches fetched
+        (map.get held file.now) limit)) }
     ensures asks { Asks Li.holds Li.faults files.old files.new result }
 {
     match files.fetch(file, limit) {
@@ -38,7 +39,8 @@ pub(crate) fn open_file<Li: Library>(
     file: &str,
     limit: usize,
 ) -> Result<FileRead, Stop>
-    ensures read { IfOk result (λ read. IfSome (Li.holds files.old) (λ held. file_meant read ≡ found_in file.now limit (map.get held file.now))) }
+    ensures read { IfOk result (λ read. IfSome (Li.holds files.old)
+        (λ held. file_meant read ≡ found_in file.now limit (map.get held file.now))) }
     ensures asks { Asks Li.holds Li.faults files.old files.new result }
 {
     match fetch(files, file, limit)? {

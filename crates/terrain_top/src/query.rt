@@ -59,7 +59,9 @@ fn answer_to_deps(alloc: Global, opened: &Opened, tile: TileId) -> Result<Answer
 
 // The numbers of a tile's file, and its note as it stands.
 fn show_tile(alloc: Global, tile: TileId, terrain: &[u8], note: &[u8]) -> Result<Answer, Stop>
-    ensures says { IfOk result (λ answer. (least greatest : Option ℤ) → IsHeightWord (header_in terrain.now).least least → IsHeightWord (header_in terrain.now).greatest greatest → Says (shown_reply tile terrain.now note.now least greatest) answer) }
+    ensures says { IfOk result (λ answer. (least greatest : Option ℤ)
+        → IsHeightWord (header_in terrain.now).least least → IsHeightWord (header_in terrain.now).greatest greatest
+        → Says (shown_reply tile terrain.now note.now least greatest) answer) }
     ensures memory { OnlyMemory result }
 {
     match TileView::read(terrain) {
@@ -87,7 +89,9 @@ fn answer_to_inspect<St: Store>(
     tile: TileId,
 ) -> Result<Answer, Stop>
     requires { opened.now.live ≡ true }
-    ensures says { (files : Files) (reply : Reply) → St.holds store.old ≡ Some files → IsInspected (exists_of opened.now.params.cap opened.now.rows tile) tile files reply → IfOk result (Says reply) }
+    ensures says { (files : Files) (reply : Reply) → St.holds store.old ≡ Some files
+        → IsInspected (exists_of opened.now.params.cap opened.now.rows tile) tile files reply
+        → IfOk result (Says reply) }
     ensures same { St.holds store.new ≡ St.holds store.old }
     ensures quiet { St.log store.new ≡ St.log store.old }
     ensures store { OnStore (St.faults store.old) (St.faults store.new) result }
@@ -106,7 +110,8 @@ pub(crate) fn answer_to_query<St: Store>(
     query: Query,
 ) -> Result<Answer, Stop>
     requires { opened.now.live ≡ true }
-    ensures says { (s : State) (files : Files) (reply : Reply) → Holds (St.holds store.old) opened.now s → St.holds store.old ≡ Some files → IsReplyTo query s files reply → IfOk result (Says reply) }
+    ensures says { (s : State) (files : Files) (reply : Reply) → Holds (St.holds store.old) opened.now s
+        → St.holds store.old ≡ Some files → IsReplyTo query s files reply → IfOk result (Says reply) }
     ensures same { St.holds store.new ≡ St.holds store.old }
     ensures quiet { St.log store.new ≡ St.log store.old }
     ensures store { OnStore (St.faults store.old) (St.faults store.new) result }

@@ -1,5 +1,6 @@
 // Scripts: edits line by line.
-ghost use Rattle.std.specs.Prelude.{◌≡◌, ◌⊎◌, ◌≤◌, ◌+◌, ◌<◌, ◌-◌, ◌^◌, ◌++◌, ◌∷◌, [], true, IfErr, IfNone, IfOk, IfSome, IsErrOf, OnErr, OnOk, Some, map, option_map};
+ghost use Rattle.std.specs.Prelude.{◌≡◌, ◌⊎◌, ◌≤◌, ◌+◌, ◌<◌, ◌-◌, ◌^◌, ◌++◌, ◌∷◌, [], true, IfErr, IfNone, IfOk};
+ghost use Rattle.std.specs.Prelude.{IfSome, IsErrOf, OnErr, OnOk, Some, map, option_map};
 ghost use Rattle.std.specs.FinMap as finmap;
 ghost use Rattle.terrain_base.specs.Library.{LibraryFiles};
 ghost use Rattle.terrain_base.specs.Sink.{FrontTaken};
@@ -15,7 +16,8 @@ ghost use Rattle.top_reply.specs.Lines.{commands_of, ended_text};
 ghost use Rattle.top_reply.specs.Reply.{Reply};
 ghost use Rattle.terrain_top.specs.Comes.{Comes};
 ghost use Rattle.terrain_top.specs.Effects.{Asks, OnlyMemory, StopHasCause};
-ghost use Rattle.terrain_top.specs.LinesGo.{IsCommandLine, IsLive, IsWithin, LineTold, LinesGo, ended_reply, line_wanted, tally_at};
+ghost use Rattle.terrain_top.specs.LinesGo.{IsCommandLine, IsLive, IsWithin, LineTold, LinesGo, ended_reply};
+ghost use Rattle.terrain_top.specs.LinesGo.{line_wanted, tally_at};
 ghost use Rattle.terrain_top.specs.Meant.{wanted_meant};
 ghost use Rattle.terrain_top.specs.Says.{Says};
 
@@ -55,7 +57,8 @@ fn read_line<Li: Library>(
     files: &mut Li,
     line: &Line<'_>,
 ) -> Result<Option<Wanted>, Stop>
-    ensures wanted { (library : LibraryFiles) → Li.holds files.old ≡ Some library → IfOk result (λ read. option_map wanted_meant read ≡ line_wanted (line_meant line.now) library) }
+    ensures wanted { (library : LibraryFiles) → Li.holds files.old ≡ Some library
+        → IfOk result (λ read. option_map wanted_meant read ≡ line_wanted (line_meant line.now) library) }
     ensures asks { Asks Li.holds Li.faults files.old files.new result }
     ensures passed { IsCommandLine (line_meant line.now) result }
 {
@@ -92,8 +95,8 @@ fn tally_of(ending: Ending) -> Tally
     }
 }
 
-// Prints the report of a line that is done or refused. Where the opened database may not be used any more, it is handed
-// back instead.
+// Prints the report of a line that is done or refused. Where the opened database may not be used any more, it is
+// handed back instead.
 fn tell_line<Si: Sink>(
     alloc: Global,
     out: &mut Si,
@@ -130,7 +133,10 @@ fn do_line<St: Store, Li: Library, Si: Sink>(
     work: &mut Work,
 ) -> Result<LinesAnswer, Stop>
     requires { opened.old.live ≡ true }
-    ensures goes { (s : State) (library : LibraryFiles) → Holds (St.holds store.old) opened.old s → Li.holds files.old ≡ Some library → LinesGo library (commands_of number (line_meant line.now ∷ [])) s (world (St.holds store.old) (St.log store.old) (Si.taken out.old) work.old) (world (St.holds store.new) (St.log store.new) (Si.taken out.new) work.new) opened.new result }
+    ensures goes { (s : State) (library : LibraryFiles) → Holds (St.holds store.old) opened.old s
+        → Li.holds files.old ≡ Some library → LinesGo library (commands_of number (line_meant line.now ∷ [])) s
+        (world (St.holds store.old) (St.log store.old) (Si.taken out.old) work.old)
+        (world (St.holds store.new) (St.log store.new) (Si.taken out.new) work.new) opened.new result }
     ensures live { IfOk result (IsLive opened.new.live) }
     ensures few { IfOk result (IsWithin 1) }
     ensures same { Li.holds files.new ≡ Li.holds files.old }
@@ -151,8 +157,8 @@ fn do_line<St: Store, Li: Library, Si: Sink>(
     }
 }
 
-// Does the lines of a script in order. The report of each is put after it is done, but that of a line that ends the script
-// is handed back.
+// Does the lines of a script in order. The report of each is put after it is done, but that of a line that ends the
+// script is handed back.
 fn do_lines<St: Store, Li: Library, Si: Sink>(
     alloc: Global,
     store: &mut St,
@@ -163,7 +169,10 @@ fn do_lines<St: Store, Li: Library, Si: Sink>(
     work: &mut Work,
 ) -> Result<LinesAnswer, Stop>
     requires { opened.old.live ≡ true }
-    ensures goes { (s : State) (library : LibraryFiles) → Holds (St.holds store.old) opened.old s → Li.holds files.old ≡ Some library → LinesGo library (commands_of 1 (map line_meant lines.now)) s (world (St.holds store.old) (St.log store.old) (Si.taken out.old) work.old) (world (St.holds store.new) (St.log store.new) (Si.taken out.new) work.new) opened.new result }
+    ensures goes { (s : State) (library : LibraryFiles) → Holds (St.holds store.old) opened.old s
+        → Li.holds files.old ≡ Some library → LinesGo library (commands_of 1 (map line_meant lines.now)) s
+        (world (St.holds store.old) (St.log store.old) (Si.taken out.old) work.old)
+        (world (St.holds store.new) (St.log store.new) (Si.taken out.new) work.new) opened.new result }
     ensures same { Li.holds files.new ≡ Li.holds files.old }
     ensures library { StopHasCause Stop.Input (Li.faults files.old) (Li.faults files.new) result }
     ensures store { StopHasCause Stop.Store (St.faults store.old) (St.faults store.new) result }
@@ -212,7 +221,11 @@ pub(crate) fn answer_to_apply<St: Store, Li: Library, Si: Sink>(
     work: &mut Work,
 ) -> Result<Answer, Stop>
     requires { opened.old.live ≡ true }
-    ensures comes { (s : State) (library : LibraryFiles) (course : Course) → Holds (St.holds store.old) opened.old s → Li.holds files.old ≡ Some library → IsApplied (found_in script.now script_limit (finmap.get library script.now)) library s course → Comes course (world (St.holds store.old) (St.log store.old) (Si.taken out.old) work.old) (world (St.holds store.new) (St.log store.new) (Si.taken out.new) work.new) result }
+    ensures comes { (s : State) (library : LibraryFiles) (course : Course) → Holds (St.holds store.old) opened.old s
+        → Li.holds files.old ≡ Some library
+        → IsApplied (found_in script.now script_limit (finmap.get library script.now)) library s course
+        → Comes course (world (St.holds store.old) (St.log store.old) (Si.taken out.old) work.old)
+        (world (St.holds store.new) (St.log store.new) (Si.taken out.new) work.new) result }
     ensures same { Li.holds files.new ≡ Li.holds files.old }
     ensures library { StopHasCause Stop.Input (Li.faults files.old) (Li.faults files.new) result }
     ensures store { StopHasCause Stop.Store (St.faults store.old) (St.faults store.new) result }

@@ -1,5 +1,6 @@
 // The call that does all that the program does.
-ghost use Rattle.std.specs.Prelude.{◌≡◌, ◌≢◌, ◌≤◌, ◌↔◌, ◌⊎◌, true, false, IfOk, IsErrOf, Option, Some, None, ℕ, List, option_map, map, string_bytes};
+ghost use Rattle.std.specs.Prelude.{◌≡◌, ◌≢◌, ◌≤◌, ◌↔◌, ◌⊎◌, true, false, IfOk, IsErrOf, Option, Some, None, ℕ, List};
+ghost use Rattle.std.specs.Prelude.{option_map, map, string_bytes};
 ghost use Rattle.terrain_base.specs.declared.store.Change.{Change};
 ghost use Rattle.terrain_base.specs.Library.{LibraryFiles};
 ghost use Rattle.terrain_base.specs.Step.{Files};
@@ -8,7 +9,8 @@ ghost use Rattle.top_words.specs.Words as spelled;
 ghost use Rattle.top_reply.specs.Course.{Course, Goes, said, world};
 ghost use Rattle.top_reply.specs.Run.{FaultHasCause, Headline, IsFrontOf, OnStop, StopsReading, StopsStanding};
 ghost use Rattle.top_reply.specs.Status.{IsAnswer};
-ghost use Rattle.top_reply.specs.Top.{HasCourse, IsCourseOf, IsMeant, Tells, makes_tiles, reads_file, touches_store, usage_reply};
+ghost use Rattle.top_reply.specs.Top.{HasCourse, IsCourseOf, IsMeant, Tells, makes_tiles, reads_file, touches_store};
+ghost use Rattle.top_reply.specs.Top.{usage_reply};
 ghost use Rattle.top_reply.specs.Valid.{IsValid};
 ghost use Rattle.terrain_top.specs.Comes.{Comes, Passes};
 ghost use Rattle.terrain_top.specs.Effects.{StopHasCause, StoreStays};
@@ -39,10 +41,17 @@ fn answer_to<St: Store, Li: Library, Si: Sink>(
     out: &mut Si,
     work: &mut Work,
 ) -> Result<Answer, Stop>
-    ensures comes { (course : Course) → IsCourseOf (Some (meant command.now)) (St.holds store.old) (Li.holds files.old) course → Comes course (world (St.holds store.old) (St.log store.old) (Si.taken out.old) work.old) (world (St.holds store.new) (St.log store.new) (Si.taken out.new) work.new) result }
-    ensures told { (held : Files) (library : LibraryFiles) → Tells (touches_store (Some (meant command.now))) (St.holds store.old) held → Tells (reads_file (Some (meant command.now))) (Li.holds files.old) library → IfOk result (λ answer. HasCourse (Some (meant command.now)) (St.holds store.old) (Li.holds files.old)) }
+    ensures comes { (course : Course)
+        → IsCourseOf (Some (meant command.now)) (St.holds store.old) (Li.holds files.old) course → Comes course
+        (world (St.holds store.old) (St.log store.old) (Si.taken out.old) work.old)
+        (world (St.holds store.new) (St.log store.new) (Si.taken out.new) work.new) result }
+    ensures told { (held : Files) (library : LibraryFiles)
+        → Tells (touches_store (Some (meant command.now))) (St.holds store.old) held
+        → Tells (reads_file (Some (meant command.now))) (Li.holds files.old) library
+        → IfOk result (λ answer. HasCourse (Some (meant command.now)) (St.holds store.old) (Li.holds files.old)) }
     ensures quiet { touches_store (Some (meant command.now)) ≡ false → Si.taken out.new ≡ Si.taken out.old }
-    ensures untouched { touches_store (Some (meant command.now)) ≡ false → StoreStays St.holds St.log St.faults store.old store.new }
+    ensures untouched { touches_store (Some (meant command.now)) ≡ false
+        → StoreStays St.holds St.log St.faults store.old store.new }
     ensures idle { makes_tiles (Some (meant command.now)) ≡ false → work.new ≡ work.old }
     ensures reads { IsErrOf result Stop.Input → reads_file (Some (meant command.now)) ≡ true }
     ensures touches { IsErrOf result Stop.Store → touches_store (Some (meant command.now)) ≡ true }
@@ -70,9 +79,16 @@ fn run_command<St: Store, Li: Library, Si: Sink>(
     out: &mut Si,
     work: &mut Work,
 ) -> Result<Ending, Stop>
-    ensures passes { (course : Course) → IsCourseOf (Some (meant command.now)) (St.holds store.old) (Li.holds files.old) course → Passes course (world (St.holds store.old) (St.log store.old) (Si.taken out.old) work.old) (world (St.holds store.new) (St.log store.new) (Si.taken out.new) work.new) result }
-    ensures told { (held : Files) (library : LibraryFiles) → Tells (touches_store (Some (meant command.now))) (St.holds store.old) held → Tells (reads_file (Some (meant command.now))) (Li.holds files.old) library → IfOk result (λ ending. HasCourse (Some (meant command.now)) (St.holds store.old) (Li.holds files.old)) }
-    ensures untouched { touches_store (Some (meant command.now)) ≡ false → StoreStays St.holds St.log St.faults store.old store.new }
+    ensures passes { (course : Course)
+        → IsCourseOf (Some (meant command.now)) (St.holds store.old) (Li.holds files.old) course → Passes course
+        (world (St.holds store.old) (St.log store.old) (Si.taken out.old) work.old)
+        (world (St.holds store.new) (St.log store.new) (Si.taken out.new) work.new) result }
+    ensures told { (held : Files) (library : LibraryFiles)
+        → Tells (touches_store (Some (meant command.now))) (St.holds store.old) held
+        → Tells (reads_file (Some (meant command.now))) (Li.holds files.old) library
+        → IfOk result (λ ending. HasCourse (Some (meant command.now)) (St.holds store.old) (Li.holds files.old)) }
+    ensures untouched { touches_store (Some (meant command.now)) ≡ false
+        → StoreStays St.holds St.log St.faults store.old store.new }
     ensures idle { makes_tiles (Some (meant command.now)) ≡ false → work.new ≡ work.old }
     ensures reads { IsErrOf result Stop.Input → reads_file (Some (meant command.now)) ≡ true }
     ensures touches { IsErrOf result Stop.Store → touches_store (Some (meant command.now)) ≡ true }
@@ -89,7 +105,8 @@ fn run_command<St: Store, Li: Library, Si: Sink>(
 
 // Says how the program is used.
 fn run_usage<Si: Sink>(out: &mut Si) -> Status
-    ensures goes { (held : Option Files) (log : Option (List Change)) (tiles : ℕ) → Goes (said usage_reply) (world held log (Si.taken out.old) tiles) (world held log (Si.taken out.new) tiles) result }
+    ensures goes { (held : Option Files) (log : Option (List Change)) (tiles : ℕ) → Goes (said usage_reply)
+        (world held log (Si.taken out.old) tiles) (world held log (Si.taken out.new) tiles) result }
     ensures sink { FaultHasCause Status.OutputFault (Si.faults out.old) (Si.faults out.new) result }
     ensures only { (result ≡ Status.Usage) ⊎ (result ≡ Status.OutputFault) ⊎ (result ≡ Status.NoMemory) }
 {
@@ -108,13 +125,20 @@ fn run_meant<St: Store, Li: Library, Si: Sink>(
     out: &mut Si,
     work: &mut Work,
 ) -> Status
-    ensures replies { (course : Course) → IsCourseOf (option_map meant command.entry) (St.holds store.old) (Li.holds files.old) course → Goes course (world (St.holds store.old) (St.log store.old) (Si.taken out.old) work.old) (world (St.holds store.new) (St.log store.new) (Si.taken out.new) work.new) result }
-    ensures told { (held : Files) (library : LibraryFiles) → Tells (touches_store (option_map meant command.entry)) (St.holds store.old) held → Tells (reads_file (option_map meant command.entry)) (Li.holds files.old) library → IsAnswer result → HasCourse (option_map meant command.entry) (St.holds store.old) (Li.holds files.old) }
+    ensures replies { (course : Course)
+        → IsCourseOf (option_map meant command.entry) (St.holds store.old) (Li.holds files.old) course → Goes course
+        (world (St.holds store.old) (St.log store.old) (Si.taken out.old) work.old)
+        (world (St.holds store.new) (St.log store.new) (Si.taken out.new) work.new) result }
+    ensures told { (held : Files) (library : LibraryFiles)
+        → Tells (touches_store (option_map meant command.entry)) (St.holds store.old) held
+        → Tells (reads_file (option_map meant command.entry)) (Li.holds files.old) library → IsAnswer result
+        → HasCourse (option_map meant command.entry) (St.holds store.old) (Li.holds files.old) }
     ensures usage { IsAnswer result → ((result ≡ Status.Usage) ↔ (option_map meant command.entry ≡ None)) }
     ensures never { result ≢ Status.Found }
     ensures reads { result ≡ Status.InputFault → reads_file (option_map meant command.entry) ≡ true }
     ensures touches { result ≡ Status.StoreFault → touches_store (option_map meant command.entry) ≡ true }
-    ensures untouched { touches_store (option_map meant command.entry) ≡ false → StoreStays St.holds St.log St.faults store.old store.new }
+    ensures untouched { touches_store (option_map meant command.entry) ≡ false
+        → StoreStays St.holds St.log St.faults store.old store.new }
     ensures idle { makes_tiles (option_map meant command.entry) ≡ false → work.new ≡ work.old }
     ensures same { Li.holds files.new ≡ Li.holds files.old }
     ensures library { FaultHasCause Status.InputFault (Li.faults files.old) (Li.faults files.new) result }
@@ -131,13 +155,14 @@ fn run_meant<St: Store, Li: Library, Si: Sink>(
 // The command that the words spell.
 fn command_of(words: &[String]) -> Option<Command<'_>>
     ensures means { IsMeant (map string_bytes words.now) (option_map meant result) }
-    ensures one { (meaning : Option spelled.Command) → IsMeant (map string_bytes words.now) meaning → meaning ≡ option_map meant result }
+    ensures one { (meaning : Option spelled.Command) → IsMeant (map string_bytes words.now) meaning
+        → meaning ≡ option_map meant result }
 {
     command_in(words)
 }
 
-/// Does what the words say, puts the report on the sink and tells how it ended. The first word is the database's folder,
-/// which the caller used already. A report's line is put after its command is done.
+/// Does what the words say, puts the report on the sink and tells how it ended. The first word is the database's
+/// folder, which the caller used already. A report's line is put after its command is done.
 pub fn run<St: Store, Li: Library, Si: Sink>(
     alloc: Global,
     words: &[String],
@@ -146,23 +171,44 @@ pub fn run<St: Store, Li: Library, Si: Sink>(
     out: &mut Si,
     work: &mut Work,
 ) -> Status
-    // The run has the course of the command: it goes to its end, with the course's status, or it is stopped in a turn.
-    ensures replies { (meaning : Option spelled.Command) → IsMeant (map string_bytes words.now) meaning → (course : Course) → IsCourseOf meaning (St.holds store.old) (Li.holds files.old) course → Goes course (world (St.holds store.old) (St.log store.old) (Si.taken out.old) work.old) (world (St.holds store.new) (St.log store.new) (Si.taken out.new) work.new) result }
+    // The run has the course of the command: it goes to its end, with the course's status, or it is stopped in a
+    // turn.
+    ensures replies { (meaning : Option spelled.Command) → IsMeant (map string_bytes words.now) meaning
+        → (course : Course) → IsCourseOf meaning (St.holds store.old) (Li.holds files.old) course → Goes course
+        (world (St.holds store.old) (St.log store.old) (Si.taken out.old) work.old)
+        (world (St.holds store.new) (St.log store.new) (Si.taken out.new) work.new) result }
 
     // Over objects that tell what they hold, as far as they are asked, a run that went to its end has a course.
-    ensures told { (meaning : Option spelled.Command) → IsMeant (map string_bytes words.now) meaning → (held : Files) (library : LibraryFiles) → Tells (touches_store meaning) (St.holds store.old) held → Tells (reads_file meaning) (Li.holds files.old) library → IsAnswer result → HasCourse meaning (St.holds store.old) (Li.holds files.old) }
+    ensures told { (meaning : Option spelled.Command) → IsMeant (map string_bytes words.now) meaning
+        → (held : Files) (library : LibraryFiles) → Tells (touches_store meaning) (St.holds store.old) held
+        → Tells (reads_file meaning) (Li.holds files.old) library → IsAnswer result
+        → HasCourse meaning (St.holds store.old) (Li.holds files.old) }
 
     // After an answer the files are those of the state after the accepted commands, and all their tiles are good.
-    ensures headline { (meaning : Option spelled.Command) → IsMeant (map string_bytes words.now) meaning → Headline meaning (St.holds store.old) (Li.holds files.old) (St.holds store.new) result }
+    ensures headline { (meaning : Option spelled.Command) → IsMeant (map string_bytes words.now) meaning
+        → Headline meaning (St.holds store.old) (Li.holds files.old) (St.holds store.new) result }
 
-    // After a stop they are those of a state that the command passes. Some first changes of the course were made, and the
-    // sink took some first bytes of its text.
-    ensures stops { (meaning : Option spelled.Command) → IsMeant (map string_bytes words.now) meaning → StopsStanding meaning (St.holds store.old) (Li.holds files.old) (world (St.holds store.old) (St.log store.old) (Si.taken out.old) work.old) (world (St.holds store.new) (St.log store.new) (Si.taken out.new) work.new) result }
-    ensures reading { (meaning : Option spelled.Command) → IsMeant (map string_bytes words.now) meaning → StopsReading meaning (St.holds store.old) (Li.holds files.old) (world (St.holds store.old) (St.log store.old) (Si.taken out.old) work.old) (world (St.holds store.new) (St.log store.new) (Si.taken out.new) work.new) result }
-    ensures fronts { (meaning : Option spelled.Command) → IsMeant (map string_bytes words.now) meaning → (course : Course) → IsCourseOf meaning (St.holds store.old) (Li.holds files.old) course → OnStop result (λ e. IsFrontOf course (world (St.holds store.old) (St.log store.old) (Si.taken out.old) work.old) (world (St.holds store.new) (St.log store.new) (Si.taken out.new) work.new)) }
+    // After a stop they are those of a state that the command passes. Some first changes of the course were made, and
+    // the sink took some first bytes of its text.
+    ensures stops { (meaning : Option spelled.Command) → IsMeant (map string_bytes words.now) meaning
+        → StopsStanding meaning (St.holds store.old) (Li.holds files.old)
+        (world (St.holds store.old) (St.log store.old) (Si.taken out.old) work.old)
+        (world (St.holds store.new) (St.log store.new) (Si.taken out.new) work.new) result }
+    ensures reading { (meaning : Option spelled.Command) → IsMeant (map string_bytes words.now) meaning
+        → StopsReading meaning (St.holds store.old) (Li.holds files.old)
+        (world (St.holds store.old) (St.log store.old) (Si.taken out.old) work.old)
+        (world (St.holds store.new) (St.log store.new) (Si.taken out.new) work.new) result }
+    ensures fronts { (meaning : Option spelled.Command) → IsMeant (map string_bytes words.now) meaning
+        → (course : Course) → IsCourseOf meaning (St.holds store.old) (Li.holds files.old) course
+        → OnStop result (λ e. IsFrontOf course
+        (world (St.holds store.old) (St.log store.old) (Si.taken out.old) work.old)
+        (world (St.holds store.new) (St.log store.new) (Si.taken out.new) work.new)) }
 
     // A valid call that answers at all is done.
-    ensures valid { (command : spelled.Command) → IsMeant (map string_bytes words.now) (Some command) → (held : Files) (library : LibraryFiles) → Tells (touches_store (Some command)) (St.holds store.old) held → Tells (reads_file (Some command)) (Li.holds files.old) library → IsValid command held library → IsAnswer result → result ≡ Status.Done }
+    ensures valid { (command : spelled.Command) → IsMeant (map string_bytes words.now) (Some command)
+        → (held : Files) (library : LibraryFiles) → Tells (touches_store (Some command)) (St.holds store.old) held
+        → Tells (reads_file (Some command)) (Li.holds files.old) library → IsValid command held library
+        → IsAnswer result → result ≡ Status.Done }
 
     // 'Usage' is the answer exactly where the words are no command.
     ensures usage { IsAnswer result → ((result ≡ Status.Usage) ↔ IsMeant (map string_bytes words.now) None) }
@@ -170,21 +216,25 @@ pub fn run<St: Store, Li: Library, Si: Sink>(
     // No command so far finds something amiss.
     ensures never { result ≢ Status.Found }
 
-    // A fault comes only where its count rose, and no count falls. No file is asked for and no store is touched but by
-    // commands that do so.
+    // A fault comes only where its count rose, and no count falls. No file is asked for and no store is touched but
+    // by commands that do so.
     ensures library { FaultHasCause Status.InputFault (Li.faults files.old) (Li.faults files.new) result }
-    ensures reads { result ≡ Status.InputFault → (meaning : Option spelled.Command) → IsMeant (map string_bytes words.now) meaning → reads_file meaning ≡ true }
+    ensures reads { result ≡ Status.InputFault → (meaning : Option spelled.Command)
+        → IsMeant (map string_bytes words.now) meaning → reads_file meaning ≡ true }
     ensures store { FaultHasCause Status.StoreFault (St.faults store.old) (St.faults store.new) result }
-    ensures touches { result ≡ Status.StoreFault → (meaning : Option spelled.Command) → IsMeant (map string_bytes words.now) meaning → touches_store meaning ≡ true }
+    ensures touches { result ≡ Status.StoreFault → (meaning : Option spelled.Command)
+        → IsMeant (map string_bytes words.now) meaning → touches_store meaning ≡ true }
     ensures sink { FaultHasCause Status.OutputFault (Si.faults out.old) (Si.faults out.new) result }
 
     // The library keeps what it holds, and so does a store that the command does not touch.
     ensures same { Li.holds files.new ≡ Li.holds files.old }
-    ensures untouched { (meaning : Option spelled.Command) → IsMeant (map string_bytes words.now) meaning → touches_store meaning ≡ false → StoreStays St.holds St.log St.faults store.old store.new }
+    ensures untouched { (meaning : Option spelled.Command) → IsMeant (map string_bytes words.now) meaning
+        → touches_store meaning ≡ false → StoreStays St.holds St.log St.faults store.old store.new }
 
     // The count of made tiles never falls, and stays where the command makes none.
     ensures more { work.old ≤ work.new }
-    ensures idle { (meaning : Option spelled.Command) → IsMeant (map string_bytes words.now) meaning → makes_tiles meaning ≡ false → work.new ≡ work.old }
+    ensures idle { (meaning : Option spelled.Command) → IsMeant (map string_bytes words.now) meaning
+        → makes_tiles meaning ≡ false → work.new ≡ work.old }
 {
     top_reply::laws::files_are_good();
     run_meant(alloc, command_of(words), store, files, out, work)

@@ -14,15 +14,17 @@ use std::alloc::Global;
 use terrain_base::Work;
 use top_reply::Stop;
 
-/// Runs generated commands over a database in memory, and tells how many of them were accepted and how large it is, beside
-/// the size of one that is built from scratch over the same cells.
+/// Runs generated commands over a database in memory, and tells how many of them were accepted and how large it is,
+/// beside the size of one that is built from scratch over the same cells.
 pub(crate) fn answer_to_trial(
     alloc: Global,
     count: u8,
     number: u64,
     work: &mut Work,
 ) -> Result<Answer, Stop>
-    ensures comes { (held : Option Files) (log : Option (List Change)) (taken : Option (List ℕ)) (course : Course) → IsTrialCourse count number course → Comes course (world held log taken work.old) (world held log taken work.new) result }
+    ensures comes { (held : Option Files) (log : Option (List Change)) (taken : Option (List ℕ)) (course : Course)
+        → IsTrialCourse count number course → Comes course (world held log taken work.old)
+        (world held log taken work.new) result }
     ensures told { IfOk result (λ answer. (course : Course) × IsTrialCourse count number course) }
     ensures memory { OnlyMemory result }
     ensures more { work.old ≤ work.new }
