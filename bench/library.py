@@ -4,8 +4,9 @@
 usage: bench/library.py [KIND [PEER WORD.. [-- PEER WORD..]]]
 
 KIND is `boxes` (boxes of places in Earth-fixed coordinates), `dense` or `hilly` (meshes of a grid of heights), `grids`
-(grids of heights over a level 2 cell), or left out, which times each. Prints how many results a second come, from the best of
-five runs, less that of a run that makes none. Given a PEER's command that makes one such result, and behind `--` one that
+(grids of heights over a level 2 cell), `tiles` (both files of a tile of level 8 over such a cell, whose bound is found at 6.4
+million posts), or left out, which times each. Prints how many results a second come, from the best of five runs, less that
+of a run that makes none. Given a PEER's command that makes one such result, and behind `--` one that
 makes none, it prints the peer's seconds, the first less the second, and the ratio.
 """
 
@@ -14,7 +15,7 @@ import sys
 
 import timing
 
-COUNTS = {"boxes": 200000, "dense": 1000, "hilly": 1000, "grids": 500}
+COUNTS = {"boxes": 200000, "dense": 1000, "hilly": 1000, "grids": 500, "tiles": 10}
 
 
 def built():

@@ -1,5 +1,5 @@
 -- What the fields of a written header say.
-use Rattle.std.proofs.Common.{◌≡◌, ℕ, ◌+◌, ◌-◌, ◌*◌, ◌/◌, ◌%◌, ◌<◌, ◌≤◌, Bool, true, false, ◌&&◌, List, [], ◌∷◌, ◌++◌, length, codes, Some, None, refl, ap, sym, ◌∙◌, arith, inl, inr, nat_le}
+use Rattle.std.proofs.Common.{◌≡◌, ℕ, ◌+◌, ◌-◌, ◌*◌, ◌/◌, ◌%◌, ◌<◌, ◌≤◌, Bool, true, false, ◌&&◌, List, ◌∷◌, ◌++◌, length, codes, Some, refl, arith, inl, inr, nat_le}
 use Rattle.std.proofs.lemmas.Bool.{cases_lt}
 use Rattle.std.proofs.lemmas.Bool.Decides.{nat_tests}
 use Rattle.std.proofs.lemmas.List.Sums.{AllPass-from_list_all}
@@ -8,10 +8,10 @@ use Rattle.std.specs.Char.{is_ascii_digit}
 use Rattle.terrain_base.specs.declared.square.Square.{Square}
 use Rattle.terrain_base.specs.declared.level.CellLevel.{CellLevel}
 use Rattle.terrain_base.specs.declared.level.CellLevel.TheVariants.{Zero, One, Two}
-use Rattle.terrain_base.specs.Level.{degrees_from_equator, factor_at, zone_factor_of, lat_step_of, lon_step_of, rows_of, columns_of}
+use Rattle.terrain_base.specs.Level.{degrees_from_equator, factor_at, lat_step_of, lon_step_of, rows_of, columns_of}
 use Rattle.dted_cell.specs.Field.{number_of, spells, Spells}
 use Rattle.dted_cell.specs.Lead.{is_label, lead_of, text_of}
-use Rattle.dted_cell.specs.Header.{east, west, north, south, series_of, IsAngle, IsLongitude, IsLatitude, IsHeader}
+use Rattle.dted_cell.specs.Header.{series_of, IsAngle, IsLongitude, IsLatitude, IsHeader}
 use Rattle.dted_cell.proofs.Numbers.{number_whole}
 use Rattle.dted_write.specs.Header.{three_digits, four_digits, degrees_of_lon, letter_of_lon, degrees_of_lat, letter_of_lat, user_label, data_set, accuracy, header_text}
 

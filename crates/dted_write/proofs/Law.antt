@@ -1,5 +1,5 @@
 -- What is written is a cell of its posts.
-use Rattle.std.proofs.Common.{◌≡◌, ℕ, ℤ, pos, negsuc, zero, suc, ◌+◌, ◌-◌, ◌*◌, ◌/◌, ◌%◌, ◌^◌, ◌<◌, ◌≤◌, ◌⊎◌, true, false, ◌==◌, nat_lt, List, [], ◌∷◌, ◌++◌, length, get_or, sum, map, refl, ap, sym, ◌∙◌, subst, arith, length-append, inl, inr}
+use Rattle.std.proofs.Common.{◌≡◌, ℕ, ℤ, pos, negsuc, zero, suc, ◌+◌, ◌-◌, ◌*◌, ◌/◌, ◌<◌, ◌≤◌, true, false, ◌==◌, nat_lt, List, [], ◌++◌, length, get_or, sum, map, refl, ap, sym, ◌∙◌, subst, arith, length-append, inl, inr}
 use Rattle.std.proofs.lemmas.Int.{ints}
 use Rattle.std.proofs.lemmas.Nat.{mul-add-lt}
 use Rattle.std.proofs.lemmas.Bool.Decides.{nat_tests}
@@ -10,12 +10,12 @@ use Rattle.terrain_base.specs.declared.level.CellLevel.TheVariants.{Zero, One, T
 use Rattle.terrain_base.specs.declared.post.Post.{Post}
 use Rattle.terrain_base.specs.declared.post.Post.TheVariants.{Void, Metres}
 use Rattle.terrain_base.specs.Height.{IsHeight}
-use Rattle.terrain_base.specs.Level.{lat_step_of, lon_step_of, rows_of, columns_of}
+use Rattle.terrain_base.specs.Level.{lon_step_of, rows_of, columns_of}
 use Rattle.dted_cell.specs.Field.{word_at, long_at}
 use Rattle.dted_cell.specs.Lead.{text_of}
 use Rattle.dted_cell.specs.Elevation.{IsElevation, post_of}
 use Rattle.dted_cell.specs.Header.{IsHeader}
-use Rattle.dted_cell.specs.Record.{record_at, elevation_at, stated_sum, plain_sum, IsRecord}
+use Rattle.dted_cell.specs.Record.{record_at, elevation_at, plain_sum, IsRecord}
 use Rattle.dted_cell.specs.Cell.{HasPosts, IsCell}
 use Rattle.dted_write.specs.declared.grid.PostGrid.{PostGrid}
 use Rattle.dted_write.specs.Post.{IsPost}
@@ -25,7 +25,7 @@ use Rattle.dted_write.specs.Record.{word_of, four_bytes, counted_posts, record_t
 use Rattle.dted_write.specs.Cell.{column_of, record_from, columns_from, cell_text}
 use Rattle.dted_write.proofs.Records.{length_column}
 use Rattle.dted_write.proofs.Headers.{header_length, header_is, no_lead, step_range}
-use Rattle.dted_write.proofs.Written.{Parted, parted, byte_in, high_in, low_in, sum_in, two_value, four_value, length_record, length_counted, counted_slice, sum_counted}
+use Rattle.dted_write.proofs.Written.{Parted, parted, byte_in, high_in, low_in, sum_in, two_value, four_value, length_record, counted_slice, sum_counted}
 
 -- ---- the word of a post
 record IsWordOf (post : Post) (word : ℕ) : Type 0 where

@@ -9,7 +9,7 @@ use Rattle.dted_write.specs.declared.grid.PostGrid.{PostGrid}
 use Rattle.dted_write.specs.Grid.{post_at}
 use Rattle.dted_write.specs.Header.{header_text}
 use Rattle.dted_write.specs.Record.{record_text}
-use Rattle.dted_write.specs.Cell.{column_of, record_from, cell_text}
+use Rattle.dted_write.specs.Cell.{record_from, cell_text}
 use Rattle.dted_write.specs.Generate.{generated_post}
 use Rattle.dted_write.specs.Landscape.{IsFilled}
 

@@ -1,14 +1,12 @@
 -- What stands where in the records of a cell that is written.
-use Rattle.std.proofs.Common.{◌≡◌, ℕ, zero, suc, ◌+◌, ◌-◌, ◌*◌, ◌/◌, ◌%◌, ◌^◌, ◌<◌, ◌≤◌, List, [], ◌∷◌, ◌++◌, length, get_or, take, drop, sum, map, refl, ap, sym, ◌∙◌, append_assoc, arith, length-append}
+use Rattle.std.proofs.Common.{◌≡◌, ℕ, zero, suc, ◌+◌, ◌-◌, ◌*◌, ◌/◌, ◌%◌, ◌^◌, ◌<◌, ◌≤◌, List, [], ◌∷◌, ◌++◌, length, get_or, drop, sum, refl, ap, sym, ◌∙◌, append_assoc, arith, length-append}
 use Rattle.std.proofs.Math.Seq.{get_or-append_right, take-append_seam, drop-append_seam}
 use Rattle.std.proofs.Math.ListN.{get_or-append}
 use Rattle.std.proofs.lemmas.List.Sums.{sum_by-cons}
 use Rattle.std.specs.List.{flat_map, range_with_len, slice_range}
 use Rattle.terrain_base.specs.declared.post.Post.{Post}
-use Rattle.terrain_base.specs.declared.post.Post.TheVariants.{Void, Metres}
-use Rattle.dted_cell.specs.Field.{word_at, long_at}
-use Rattle.dted_cell.specs.Record.{record_at, elevation_at, stated_sum, plain_sum}
-use Rattle.dted_write.specs.Record.{word_of, two_bytes, four_bytes, bytes_of_post, counted_posts, record_text}
+use Rattle.terrain_base.specs.declared.post.Post.TheVariants.{Void}
+use Rattle.dted_write.specs.Record.{word_of, four_bytes, bytes_of_post, counted_posts, record_text}
 use Rattle.dted_write.specs.Cell.{column_of, record_from}
 use Rattle.dted_write.proofs.Records.{length_elevations, length_column}
 

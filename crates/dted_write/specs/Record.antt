@@ -1,21 +1,5 @@
 -- A data record that is written (MIL-PRF-89020, data record).
-use Rattle.std.specs.Prelude.{
-  ℕ,
-  ℤ,
-  pos,
-  ◌+◌,
-  ◌/◌,
-  ◌%◌,
-  int_lt,
-  unsigned_abs,
-  List,
-  [],
-  ◌∷◌,
-  ◌++◌,
-  flat_map,
-  sum,
-  if◌then◌else◌,
-}
+use Rattle.std.specs.Prelude.{ℕ, pos, ◌+◌, ◌/◌, ◌%◌, int_lt, unsigned_abs, List, [], ◌∷◌, ◌++◌, flat_map, sum, if◌then◌else◌}
 use Rattle.terrain_base.specs.declared.post.Post.{Post}
 use Rattle.terrain_base.specs.declared.post.Post.TheVariants.{Void, Metres}
 

@@ -9,6 +9,7 @@ pub mod laws;
 mod mixing;
 mod posts;
 mod record;
+mod table;
 #[cfg(test)]
 mod tests;
 
@@ -16,3 +17,4 @@ pub use cell::write_cell;
 pub use grid::PostGrid;
 pub use landscape::generate;
 pub use mixing::mix;
+pub use table::PostTable;

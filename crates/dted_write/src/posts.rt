@@ -4,7 +4,7 @@ ghost use Rattle.terrain_base.specs.Level.{rows_of, columns_of};
 ghost use Rattle.dted_write.specs.Post.{IsPost};
 ghost use Rattle.dted_write.specs.Grid.{post_at};
 
-use crate::PostGrid;
+use crate::{PostGrid, PostTable};
 use std::alloc::Global;
 use terrain_base::{CellLevel, NoMemory, Post, Square, columns, rows};
 
@@ -79,5 +79,25 @@ impl PostGrid {
     {
         let place = self.place(col, row);
         self.posts[place] = post;
+    }
+}
+
+impl PostTable for PostGrid {
+    ghost square_of = { λ grid. grid.square };
+
+    ghost level_of = { λ grid. grid.level };
+
+    ghost posts_of = { post_at };
+
+    fn square(&self) -> Square {
+        self.square
+    }
+
+    fn level(&self) -> CellLevel {
+        self.level
+    }
+
+    fn post(&self, col: u16, row: u16) -> Post {
+        self.get(col, row)
     }
 }

@@ -3,11 +3,10 @@ ghost use Rattle.std.specs.Prelude.{◌≡◌, ◌<◌, ◌≤◌, ◌^◌, leng
 ghost use Rattle.terrain_base.specs.Level.{rows_of, columns_of};
 ghost use Rattle.terrain_base.specs.Height.{IsHeight};
 ghost use Rattle.dted_write.specs.Post.{IsPost};
-ghost use Rattle.dted_write.specs.Grid.{post_at};
 ghost use Rattle.dted_write.specs.Record.{word_of, counted_posts};
 ghost use Rattle.dted_write.specs.Cell.{column_of, record_from};
 
-use crate::PostGrid;
+use crate::PostTable;
 use std::alloc::Global;
 use terrain_base::{NoMemory, Post, rows};
 
@@ -36,14 +35,15 @@ fn word(post: Post) -> u16
 
 /// A record without its checksum.
 #[tactic(auto, unfolding(crate::specs::Record::counted_posts), using(crate::proofs::Records::elevations_next))]
-fn counted(alloc: Global, posts: &PostGrid, col: u16) -> Result<Vec<u8>, NoMemory>
-    requires { col < columns_of posts.now.square posts.now.level }
-    ensures { IfOk result (λ r. r.items ≡ counted_posts col (column_of (post_at posts.now) (rows_of posts.now.level) col)) }
+fn counted<P: PostTable>(alloc: Global, posts: &P, col: u16) -> Result<Vec<u8>, NoMemory>
+    requires { col < columns_of (P.square_of posts.now) (P.level_of posts.now) }
+    ensures { IfOk result (λ r. r.items
+        ≡ counted_posts col (column_of (P.posts_of posts.now) (rows_of (P.level_of posts.now)) col)) }
 {
     let [high, low] = col.to_be_bytes();
     let mut record = vec![in alloc; 0xAA, 0, high, low, high, low, 0, 0]?;
     for row in 0..rows(posts.level()) {
-        record.extend_from_slice(&word(posts.get(col, row)).to_be_bytes())?;
+        record.extend_from_slice(&word(posts.post(col, row)).to_be_bytes())?;
     }
     Ok(record)
 }
@@ -58,9 +58,9 @@ fn summed(bytes: &[u8]) -> u32
 
 /// The record of a column.
 #[tactic(auto, unfolding(crate::specs::Record::record_text), using(crate::proofs::Records::record_small))]
-pub(crate) fn record(alloc: Global, posts: &PostGrid, col: u16) -> Result<Vec<u8>, NoMemory>
-    requires { col < columns_of posts.now.square posts.now.level }
-    ensures { IfOk result (λ r. r.items ≡ record_from (post_at posts.now) (rows_of posts.now.level) col) }
+pub(crate) fn record<P: PostTable>(alloc: Global, posts: &P, col: u16) -> Result<Vec<u8>, NoMemory>
+    requires { col < columns_of (P.square_of posts.now) (P.level_of posts.now) }
+    ensures { IfOk result (λ r. r.items ≡ record_from (P.posts_of posts.now) (rows_of (P.level_of posts.now)) col) }
 {
     let mut record = counted(alloc, posts, col)?;
     let checksum = summed(&record);

@@ -10,6 +10,7 @@ mod grids;
 mod layers;
 mod meshes;
 mod scattered;
+mod tiles;
 
 use meshes::Kind;
 use std::alloc::Global;
@@ -44,6 +45,7 @@ fn report(alloc: Global, kind: &str, count: u32) -> Result<Vec<u8>, NoMemory> {
         "sample" => return sample(alloc, count),
         "boxes" => boxes::sum(count),
         "grids" => grids::sum(alloc, count)?,
+        "tiles" => tiles::sum(alloc, count)?,
         "dense" => meshes::sum(alloc, Kind::Dense, count)?,
         "hilly" => meshes::sum(alloc, Kind::Hilly, count)?,
         _ => 0,

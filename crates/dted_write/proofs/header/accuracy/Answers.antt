@@ -1,4 +1,4 @@
-use Rattle.std.proofs.Common.{◌≡◌, ◌++◌, codes, ap, ◌∙◌}
+use Rattle.std.proofs.Common.{◌++◌, codes, ap, ◌∙◌}
 use Rattle.dted_write.specs.Header.{blanks}
 use Rattle.dted_write.proofs.Labels.{accuracy_is}
 use Rattle.dted_write.proofs.header.accuracy.Goals as goal

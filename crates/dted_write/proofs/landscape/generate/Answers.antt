@@ -1,4 +1,4 @@
-use Rattle.std.proofs.Common.{◌≡◌, ◌∙◌, sym, subst}
+use Rattle.std.proofs.Common.{◌∙◌, sym, subst}
 use Rattle.dted_cell.specs.Cell.{IsCell}
 use Rattle.dted_write.specs.Cell.{columns_from}
 use Rattle.dted_write.specs.Generate.{generated_post}

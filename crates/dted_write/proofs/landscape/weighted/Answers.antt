@@ -1,4 +1,4 @@
-use Rattle.std.proofs.Common.{◌≤◌, arith, rules}
+use Rattle.std.proofs.Common.{arith}
 use Rattle.dted_write.proofs.Knots.{weighted_most}
 use Rattle.dted_write.proofs.landscape.weighted.Goals as goal
 
