@@ -1,0 +1,8 @@
+-- A sort by the low ends.
+use Rattle.std.proofs.Common.{rules}
+use Rattle.std.proofs.lemmas.List.Sorted.{IsNonDecreasingBy-from_sort_by_key}
+use Rattle.mesh_check.proofs.span.sort_spans.Goals as goal
+
+pub returns-clause-ascending : goal.returns-clause-ascending
+returns-clause-ascending c = IsNonDecreasingBy-from_sort_by_key (λ s. s.low) _ c.sort_unstable_by_key.ensures.sorted
+    (λ a r q k. search rules)

@@ -1,0 +1,10 @@
+pub mod Slab
+pub mod Members
+pub mod Findings
+pub mod Ranks
+pub mod Ordered
+pub mod CodeMesh
+pub mod Spans
+pub mod Level
+pub mod Sweep
+pub mod Laws
