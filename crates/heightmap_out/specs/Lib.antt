@@ -1,0 +1,5 @@
+pub mod Sample
+pub mod Mask
+pub mod Tile
+pub mod View
+pub mod Laws
