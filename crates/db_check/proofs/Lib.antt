@@ -1,0 +1,5 @@
+pub mod Checks
+pub mod Exactness
+pub mod Looked
+pub mod Passing
+pub mod TileNames
