@@ -19,10 +19,10 @@ use terrain_base::{Store, TileId};
 /// A tile of the opened database in the form heightmap-1.0: 8452 bytes, of the database's cells, its fill where no
 /// cell tells a height, and the children that exist. The tile's stored files are not read, and no tile is made.
 ///
-/// K10 exactly where the tile does not exist. Where it does, over a store that holds the opened cells nothing but a stop
-/// by the store or for want of memory is answered in place of Ok; over every other store only trouble with the cell of
-/// a row may be answered besides, and where the store tells its files, they show it. Changes nothing held and adds
-/// nothing to the log, whatever it answers.
+/// K10 exactly where the tile does not exist. Where it does, over a store that holds the opened cells nothing but a
+/// stop by the store or for want of memory is answered in place of Ok; over every other store only trouble with the
+/// cell of a row may be answered besides, and where the store tells its files, they show it. Changes nothing held and
+/// adds nothing to the log, whatever it answers.
 pub fn heightmap_tile<S: Store>(
     alloc: Global,
     store: &mut S,
