@@ -1,3 +1,4 @@
+pub mod Check
 pub mod Done
 pub mod Listing
 pub mod Refusal

@@ -1,6 +1,7 @@
 //! The texts of replies on a database: lines of reports, and refusals from their numbers on, byte for byte.
 #![tactic(auto)]
 
+mod check;
 mod done;
 mod listing;
 mod refusal;
@@ -10,6 +11,7 @@ mod tile;
 mod trial;
 mod words;
 
+pub use check::check_line;
 pub use done::{Edited, created_line, edited_line, rebuilt_line, script_line, script_mark};
 pub use listing::{deps_text, list_text};
 pub use refusal::{NO_COMMAND, refusal_text};

@@ -1,4 +1,5 @@
 pub mod Cell
+pub mod Finding
 pub mod Refusal
 pub mod Tile
 pub mod TileRefusal

@@ -20,12 +20,14 @@ pub data DatabaseCommand : Type 0 where
   Change : (edit : Edit) → DatabaseCommand
   Apply : (script : List ℕ) → DatabaseCommand
   Rebuild : DatabaseCommand
+  Check : DatabaseCommand
 
 pub data Command : Type 0 where
   Init : (params : Params) → Command
   Database : (command : DatabaseCommand) → Command
   ReadCell : (file : List ℕ) → Command
   Audit : (file : List ℕ) → Command
+  Convert : (file : List ℕ) → Command
   Trial : (count number : ℕ) → Command
 
 -- ---- the words after the folder
@@ -37,6 +39,7 @@ abbrev pub query_words : Query → List (List ℕ)
 query_words query.List = codes "list" ∷ []
 query_words (query.Inspect tile) = codes "inspect" ∷ tile_words tile
 query_words (query.Deps tile) = codes "deps" ∷ tile_words tile
+query_words (query.Heightmap tile) = codes "heightmap" ∷ tile_words tile
 
 abbrev pub edit_words : Edit → List (List ℕ)
 edit_words (Add file) = codes "add" ∷ file ∷ []
@@ -48,6 +51,7 @@ database_words (Ask query) = query_words query
 database_words (Change edit) = edit_words edit
 database_words (Apply script) = codes "apply" ∷ script ∷ []
 database_words Rebuild = codes "rebuild" ∷ []
+database_words Check = codes "check" ∷ []
 
 -- numbers in decimal, without leading zeros; a negative one with `-`
 abbrev pub words_of : Command → List (List ℕ)
@@ -55,6 +59,7 @@ words_of (Init params) = codes "init" ∷ decimal params.cap ∷ signed_decimal 
 words_of (Database command) = database_words command
 words_of (ReadCell file) = codes "cell" ∷ file ∷ []
 words_of (Audit file) = codes "audit" ∷ file ∷ []
+words_of (Convert file) = codes "convert" ∷ file ∷ []
 words_of (Trial count number) = codes "trial" ∷ decimal count ∷ decimal number ∷ []
 
 -- ---- names of files are not empty, and numbers are within their ranges
@@ -72,12 +77,14 @@ IsGoodOfDatabase (Ask query) = Unit {0}
 IsGoodOfDatabase (Change edit) = IsGoodEdit edit
 IsGoodOfDatabase (Apply script) = IsFileName script
 IsGoodOfDatabase Rebuild = Unit {0}
+IsGoodOfDatabase Check = Unit {0}
 
 abbrev pub IsGood : Command → Type 0
 IsGood (Init params) = Unit {0}
 IsGood (Database command) = IsGoodOfDatabase command
 IsGood (ReadCell file) = IsFileName file
 IsGood (Audit file) = IsFileName file
+IsGood (Convert file) = IsFileName file
 IsGood (Trial count number) = (count ≤ 64) × (number < 2 ^ 64)
 
 -- the words behind the folder are those of the command

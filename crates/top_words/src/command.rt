@@ -22,6 +22,8 @@ pub enum Query {
     Inspect { tile: TileId },
     /// The squares with cells that a tile touches.
     Deps { tile: TileId },
+    /// A tile in the form heightmap-1.0.
+    Heightmap { tile: TileId },
 }
 
 /// A command over a database, which is settled first.
@@ -33,6 +35,8 @@ pub enum DatabaseCommand<'a> {
     Apply { script: &'a str },
     /// Makes every file anew.
     Rebuild,
+    /// Compares every file with one that is made anew.
+    Check,
 }
 
 /// A command.
@@ -47,8 +51,12 @@ pub enum Command<'a> {
     Cell {
         file: &'a str,
     },
-    /// Reads a tile's file.
+    /// Says whether the tile of a file covers its square exactly once.
     Audit {
+        file: &'a str,
+    },
+    /// Gives a raster in the form HGT as a cell.
+    Convert {
         file: &'a str,
     },
     /// Runs generated commands over a store in memory and prints a summary.

@@ -18,6 +18,9 @@ fn no_argument(word: &str) -> Option<Command<'_>>
     if word == "rebuild" {
         return Some(Command::Database(DatabaseCommand::Rebuild));
     }
+    if word == "check" {
+        return Some(Command::Database(DatabaseCommand::Check));
+    }
     None
 }
 
@@ -43,6 +46,9 @@ fn with_file<'a>(word: &str, file: &'a str) -> Option<Command<'a>>
     }
     if word == "audit" {
         return Some(Command::Audit { file });
+    }
+    if word == "convert" {
+        return Some(Command::Convert { file });
     }
     None
 }
@@ -79,6 +85,10 @@ fn with_tile<'a>(word: &str, z: &str, x: &str, y: &str) -> Option<Command<'a>>
     if word == "deps" {
         let tile = read_tile(z, x, y)?;
         return Some(Command::Database(DatabaseCommand::Ask(Query::Deps { tile })));
+    }
+    if word == "heightmap" {
+        let tile = read_tile(z, x, y)?;
+        return Some(Command::Database(DatabaseCommand::Ask(Query::Heightmap { tile })));
     }
     None
 }

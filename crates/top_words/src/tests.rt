@@ -29,6 +29,27 @@ fn words_spell_commands(rt: HostRuntime) -> Result<(), Stopped> {
         matches!(command_in(&inspect), Some(Command::Database(DatabaseCommand::Ask(Query::Inspect { tile })))
         if tile.x == 512)
     );
+    let heightmap = words(alloc, &["db", "heightmap", "9", "512", "256"])?;
+    assert!(rt;
+        matches!(command_in(&heightmap), Some(Command::Database(DatabaseCommand::Ask(Query::Heightmap { tile })))
+        if tile.y == 256)
+    );
+    let check = words(alloc, &["db", "check"])?;
+    assert!(rt;
+        matches!(
+            command_in(&check),
+            Some(Command::Database(DatabaseCommand::Check))
+        )
+    );
+    let convert = words(alloc, &["db", "convert", "N46E007.hgt"])?;
+    assert!(rt;
+        matches!(
+            command_in(&convert),
+            Some(Command::Convert {
+                file: "N46E007.hgt"
+            })
+        )
+    );
     let trial = words(alloc, &["db", "trial", "64", "18446744073709551615"])?;
     assert!(rt;
         matches!(
@@ -45,7 +66,7 @@ fn words_spell_commands(rt: HostRuntime) -> Result<(), Stopped> {
 #[test]
 fn other_words_spell_none(rt: HostRuntime) -> Result<(), Stopped> {
     let alloc = rt.alloc();
-    let table: [&[&str]; 12] = [
+    let table: [&[&str]; 14] = [
         &[],
         &["db"],
         &["db", "init", "15", "0"],
@@ -58,6 +79,8 @@ fn other_words_spell_none(rt: HostRuntime) -> Result<(), Stopped> {
         &["db", "inspect", "0", "2", "0"],
         &["db", "trial", "65", "1"],
         &["db", "list", "x"],
+        &["db", "check", "x"],
+        &["db", "convert", ""],
     ];
     for row in &table {
         let spelled = words(alloc, row)?;
