@@ -11,9 +11,11 @@ use Rattle.mesh_codec.specs.Refusal.{tile_refusal_of}
 use Rattle.cell_mosaic.specs.Summaries.{summaries_of}
 use Rattle.availability.specs.Existence.{exists_of}
 use Rattle.tile_deps.specs.Squares.{squares_of, touching}
+use Rattle.heightmap_out.specs.Tile.{heightmap_of}
+use Rattle.db_heightmap.proofs.Lengths.{has_bytes}
 use Rattle.report_text.specs.TileRefusal.{tile_refusal_text_of}
 use Rattle.top_words.specs.declared.command.Query.{Query}
-use Rattle.top_words.specs.declared.command.Query.TheVariants.{List as ListCells, Inspect, Deps}
+use Rattle.top_words.specs.declared.command.Query.TheVariants.{List as ListCells, Inspect, Deps, Heightmap}
 use Rattle.database.specs.declared.answer.EngineAnswer.TheVariants as answer
 use Rattle.database.specs.State.{State, tile_exists}
 use Rattle.db_report.specs.Listing.{deps_text_of}
@@ -21,7 +23,7 @@ use Rattle.top_reply.specs.declared.stop.Stop.{Stop}
 use Rattle.top_reply.specs.declared.stop.Stop.TheVariants as stop
 use Rattle.top_reply.specs.Course.{Course, World, StopsIn, text_turn}
 use Rattle.top_reply.specs.Database.{IsAsked}
-use Rattle.top_reply.specs.Query.{IsInspected, IsReplyTo, IsShownBy, deps_reply, shown_by}
+use Rattle.top_reply.specs.Query.{IsInspected, IsReplyTo, IsShownBy, deps_reply, heightmap_reply, shown_by}
 use Rattle.top_reply.specs.Reply.{Reply, cause_of, refused_reply, text_reply}
 use Rattle.terrain_top.specs.declared.answer.Answer.{Answer}
 use Rattle.terrain_top.specs.Comes.{Comes}
@@ -69,6 +71,10 @@ some_reply (Deps tile) s files reply is =
     as_reply reply (deps_reply tile s.params.cap (summaries_of s.cells)) is
     (some_deps (exists_of s.params.cap (summaries_of s.cells) tile) (cause_of (answer.NoTile tile))
     (deps_text_of tile (touching tile (squares_of (summaries_of s.cells)))) (omega arith))
+some_reply (Heightmap tile) s files reply is =
+    as_reply reply (heightmap_reply tile s) is
+    (some_deps (tile_exists s tile) (cause_of (answer.NoTile tile)) (heightmap_of s.params s.cells tile)
+    (has_bytes s.params s.cells tile))
 
 -- ---- a question changes nothing
 
@@ -91,5 +97,5 @@ pub asked_comes : (query : Query) (s : State) (files : Files) (course : Course) 
     → w'.taken ≡ w.taken → w'.work ≤ w.work → Comes course w w' result
 asked_comes query s files course w w' result is says only held log taken few =
     comes_as _ course w w' result (sym is.course_is)
-    (said_comes is.reply w w' result (says is.reply is.answers) (some_reply query s files is.reply is.answers)
+    (said_comes is.reply w w' result (says is.reply is.is) (some_reply query s files is.reply is.is)
     held log taken few (stopped is.reply w w' result only held log taken))

@@ -142,6 +142,7 @@ pub passes_goes : (course : Course) (w w' : World) (result : Result Ending Stop)
     → Goes course w w' (status_by result)
 passes_goes course w w' (Ok ending.Done) p = p
 passes_goes course w w' (Ok ending.Refused) p = p
+passes_goes course w w' (Ok ending.Found) p = p
 passes_goes course w w' (Err stop.Input) p = p
 passes_goes course w w' (Err stop.Store) p = p
 passes_goes course w w' (Err stop.Output) p = p

@@ -1,38 +1,50 @@
 -- How each command comes to its last text.
-use Rattle.std.proofs.Common.{◌≡◌, ◌⊎◌, ℕ, ◌<◌, ◌≤◌, List, [], ◌∷◌, length, Option, Some, None, Result, Ok, Err, IfErr, IfOk, IfSome, refl, sym, subst}
+use Rattle.std.proofs.Common.{◌≡◌, ◌⊎◌, ℕ, ◌<◌, ◌≤◌, List, [], ◌∷◌, length, Option, Some, None, Result, Ok, Err, IfErr, IfOk, IfSome, codes, refl, sym, subst, arith, length-append}
 use Rattle.std.specs.FinMap.{get}
 use Rattle.terrain_base.specs.declared.params.Params.{Params}
 use Rattle.terrain_base.specs.Library.{LibraryFiles}
 use Rattle.terrain_base.specs.Step.{Files}
 use Rattle.dted_cell.specs.declared.refusal.CellRefusal.{CellRefusal}
 use Rattle.dted_cell.specs.Refusal.{refusal_of}
+use Rattle.terrain_base.specs.declared.square.Square.{Square}
+use Rattle.hgt_cells.specs.declared.refusal.HgtRefusal.{HgtRefusal}
+use Rattle.hgt_cells.specs.Cell.{hgt_cell_text}
+use Rattle.hgt_cells.specs.Name.{square_named}
+use Rattle.hgt_cells.specs.Refusal.{hgt_refusal_of}
+use Rattle.hgt_cells.specs.Text.{hgt_refusal_text_of}
+use Rattle.hgt_cells.proofs.CellLaws.{cell_has_bytes}
+use Rattle.mesh_check.specs.declared.verdict.Verdict as mesh
+use Rattle.mesh_check.specs.declared.verdict.Verdict.TheVariants as of_mesh
 use Rattle.mesh_codec.specs.declared.refusal.TileRefusal.{TileRefusal}
 use Rattle.mesh_codec.specs.Refusal.{tile_refusal_of}
 use Rattle.report_text.specs.Cell.{cell_line_of}
+use Rattle.report_text.specs.Finding.{finding_text_of}
 use Rattle.report_text.specs.Refusal.{cell_refusal_of}
 use Rattle.report_text.specs.Tile.{audit_line_of}
 use Rattle.report_text.specs.TileRefusal.{tile_refusal_text_of}
-use Rattle.top_words.specs.Words.{Command, DatabaseCommand, Init, Database, ReadCell, Audit, Trial}
+use Rattle.top_words.specs.Words.{Command, DatabaseCommand, Init, Database, ReadCell, Audit, Convert, Trial}
 use Rattle.database.specs.Opening as opens
 use Rattle.top_reply.specs.declared.status.Status.{Status}
 use Rattle.top_reply.specs.declared.stop.Stop.{Stop}
 use Rattle.top_reply.specs.declared.stop.Stop.TheVariants as stop
-use Rattle.top_reply.specs.Audit.{audit_reply, tile_reply, tile_reply_by}
+use Rattle.top_reply.specs.Audit.{IsAuditReply, IsTileReply, IsTileReplyBy, verdict_reply}
 use Rattle.top_reply.specs.Cell.{cell_reply, read_reply, read_reply_by}
-use Rattle.top_reply.specs.Course.{Course, Goes, StopsIn, World, said, text_turn}
+use Rattle.top_reply.specs.Convert.{bad_name_text, convert_by, convert_reply, converted, converted_by}
+use Rattle.top_reply.specs.Course.{Course, Goes, IsSaid, StopsIn, World, said, text_turn}
 use Rattle.top_reply.specs.Database.{init_course}
-use Rattle.top_reply.specs.File.{Found, Bytes, NoFile, cell_limit, found_in, reply_by, tile_limit}
+use Rattle.top_reply.specs.File.{Found, Bytes, NoFile, IsReplyBy, cell_limit, found_in, reply_by, tile_limit}
 use Rattle.top_reply.specs.Reply.{Reply}
 use Rattle.top_reply.specs.Status.{IsAnswer}
 use Rattle.top_reply.specs.Top.{HasCourse, IsCourseOf, Tells, database_reads, reads_file, touches_store, usage_reply}
 use Rattle.top_reply.specs.Trial.{IsTrialCourse}
 use Rattle.terrain_top.specs.declared.answer.Answer.{Answer}
 use Rattle.terrain_top.specs.Comes.{Comes}
-use Rattle.terrain_top.specs.Says.{Says}
+use Rattle.terrain_top.specs.Says.{Says, SaysSome}
 use Rattle.terrain_top.specs.Told.{HasOfDatabase}
 use Rattle.terrain_top.proofs.Coming.{comes_as, not_begun, said_comes}
-use Rattle.terrain_top.proofs.EditsGo.{some_cause, some_line}
+use Rattle.terrain_top.proofs.EditsGo.{some_behind, some_cause, some_line}
 use Rattle.terrain_top.proofs.Scripts.{on_ok}
+use Rattle.top_reply.proofs.OneCourse.{one_audit}
 
 -- ---- replies to files are not empty
 
@@ -40,9 +52,20 @@ some_cell : (bytes : List ℕ) (refusal : Option CellRefusal) → 0 < length (re
 some_cell bytes None = some_line (cell_line_of bytes)
 some_cell bytes (Some refusal) = some_cause (cell_refusal_of refusal)
 
-some_tile : (bytes : List ℕ) (refusal : Option TileRefusal) → 0 < length (tile_reply_by bytes refusal).text
-some_tile bytes None = some_line (audit_line_of bytes)
-some_tile bytes (Some refusal) = some_cause (tile_refusal_text_of refusal)
+some_verdict : (bytes : List ℕ) (verdict : mesh.Verdict) → 0 < length (verdict_reply bytes verdict).text
+some_verdict bytes of_mesh.Good = omega (arith, length-append (audit_line_of bytes) (codes "\ngood\n"))
+some_verdict bytes (of_mesh.Found finding) = some_behind (audit_line_of bytes) (finding_text_of finding) (codes "\n")
+
+some_tile : (bytes : List ℕ) (refusal : Option TileRefusal) (reply : Reply) → IsTileReplyBy bytes refusal reply
+    → 0 < length reply.text
+some_tile bytes None reply is = subst (λ r. 0 < length r.text) (sym is.reply_is) (some_verdict bytes is.verdict)
+some_tile bytes (Some refusal) reply is =
+    subst (λ r. 0 < length r.text) (sym is) (some_cause (tile_refusal_text_of refusal))
+
+some_raster : (square : Square) (bytes : List ℕ) (refusal : Option HgtRefusal)
+    → 0 < length (converted_by square bytes refusal).text
+some_raster square bytes None = cell_has_bytes square bytes
+some_raster square bytes (Some refusal) = some_cause (hgt_refusal_text_of refusal)
 
 some_found : (read : List ℕ → Reply) → ((bytes : List ℕ) → 0 < length (read bytes).text) → (found : Found)
     → 0 < length (reply_by read found).text
@@ -53,9 +76,21 @@ pub some_cell_reply : (file : List ℕ) (held : Option (List ℕ)) → 0 < lengt
 some_cell_reply file held =
     some_found read_reply (λ bytes. some_cell bytes (refusal_of bytes)) (found_in file cell_limit held)
 
-pub some_audit_reply : (file : List ℕ) (held : Option (List ℕ)) → 0 < length (audit_reply file held).text
-some_audit_reply file held =
-    some_found tile_reply (λ bytes. some_tile bytes (tile_refusal_of bytes)) (found_in file tile_limit held)
+pub some_audit_reply : (file : List ℕ) (held : Option (List ℕ)) (reply : Reply) → IsAuditReply file held reply
+    → 0 < length reply.text
+some_audit_reply file held reply is = by_found (found_in file tile_limit held) reply is
+  where
+    by_found : (found : Found) (reply : Reply) → IsReplyBy IsTileReply found reply → 0 < length reply.text
+    by_found (Bytes bytes) reply is = some_tile bytes (tile_refusal_of bytes) reply is
+    by_found (NoFile cause) reply is = subst (λ r. 0 < length r.text) (sym is) (some_cause cause)
+
+some_convert : (named : Option Square) (file : List ℕ) (held : Option (List ℕ)) → 0 < length (convert_by named file held).text
+some_convert None file held = some_cause (bad_name_text file)
+some_convert (Some square) file held =
+    some_found (converted square) (λ bytes. some_raster square bytes (hgt_refusal_of bytes)) (found_in file cell_limit held)
+
+pub some_convert_reply : (file : List ℕ) (held : Option (List ℕ)) → 0 < length (convert_reply file held).text
+some_convert_reply file held = some_convert (square_named file) file held
 
 -- ---- a command that asks the library alone
 
@@ -81,6 +116,32 @@ read_comes replies books library course w w' result is course_is some says which
     (said_comes (replies books) w w' result (told_says replies books library result is says) some held log taken few
     (asks_stop (replies books) w w' result which held log taken))
 
+-- an answer says the reply that is told by a relation
+told_some : (Is : LibraryFiles → Reply → Type 0) → ((books : LibraryFiles) (a b : Reply) → Is books a → Is books b → a ≡ b)
+    → (books : LibraryFiles) (library : Option LibraryFiles) (reply : Reply) (result : Result Answer Stop)
+    → library ≡ Some books → Is books reply → IfOk result (λ a. IfSome library (λ held. SaysSome (Is held) a))
+    → IfOk result (Says reply)
+told_some Is one books library reply (Ok a) tells is says =
+    let some : SaysSome (Is books) a = subst (λ o. IfSome o (λ held. SaysSome (Is held) a)) tells says in
+    subst (λ r. Says r a) (one books some.reply reply some.is is) some.says
+told_some Is one books library reply (Err e) tells is says = tt
+
+audit_of : List ℕ → LibraryFiles → Reply → Type 0
+audit_of file books reply = IsAuditReply file (get books file) reply
+
+pub audit_comes : (file : List ℕ) (books : LibraryFiles) (library : Option LibraryFiles) (course : Course) (w w' : World)
+    (result : Result Answer Stop) → library ≡ Some books → IsSaid (IsAuditReply file (get books file)) course
+    → IfOk result (λ a. IfSome library (λ held. SaysSome (IsAuditReply file (get held file)) a))
+    → IfErr result (λ e. (e ≡ stop.Input) ⊎ (e ≡ stop.NoMemory)) → w'.held ≡ w.held → w'.log ≡ w.log → w'.taken ≡ w.taken
+    → w'.work ≤ w.work → Comes course w w' result
+unfolding audit_of
+audit_comes file books library course w w' result tells is says which held log taken few =
+    comes_as (said is.reply) course w w' result (sym is.course_is)
+    (said_comes is.reply w w' result
+    (told_some (audit_of file) (λ books. one_audit file (get books file)) books library is.reply result tells is.is says)
+    (some_audit_reply file (get books file) is.reply is.is) held log taken few
+    (asks_stop is.reply w w' result which held log taken))
+
 -- ---- each has a course
 
 some_opening : opens.Opening
@@ -94,13 +155,34 @@ told_cell file held library files books result tells = on_ok result (record {
   is = record { files = files; books = books; opening = some_opening; store_tells = tt; library_tells = tells; opens = tt; is = refl };
 })
 
-pub told_audit : (file : List ℕ) (held : Option Files) (library : Option LibraryFiles) (files : Files) (books : LibraryFiles)
-    (result : Result Answer Stop) → Tells (reads_file (Some (Audit file))) library books
-    → IfOk result (λ a. HasCourse (Some (Audit file)) held library)
-told_audit file held library files books result tells = on_ok result (record {
-  course = said (audit_reply file (get books file));
+pub told_convert : (file : List ℕ) (held : Option Files) (library : Option LibraryFiles) (files : Files)
+    (books : LibraryFiles) (result : Result Answer Stop) → Tells (reads_file (Some (Convert file))) library books
+    → IfOk result (λ a. HasCourse (Some (Convert file)) held library)
+told_convert file held library files books result tells = on_ok result (record {
+  course = said (convert_reply file (get books file));
   is = record { files = files; books = books; opening = some_opening; store_tells = tt; library_tells = tells; opens = tt; is = refl };
 })
+
+pub told_audit : (file : List ℕ) (held : Option Files) (library : Option LibraryFiles) (files : Files) (books : LibraryFiles)
+    (result : Result Answer Stop) → library ≡ Some books
+    → IfOk result (λ a. IfSome library (λ held. SaysSome (IsAuditReply file (get held file)) a))
+    → IfOk result (λ a. HasCourse (Some (Audit file)) held library)
+told_audit file held library files books (Ok a) tells says =
+    let some : SaysSome (IsAuditReply file (get books file)) a =
+    subst (λ o. IfSome o (λ held. SaysSome (IsAuditReply file (get held file)) a)) tells says in
+    record {
+      course = said some.reply;
+      is = record {
+        files = files;
+        books = books;
+        opening = some_opening;
+        store_tells = tt;
+        library_tells = tells;
+        opens = tt;
+        is = record { reply = some.reply; is = some.is; course_is = refl };
+      };
+    }
+told_audit file held library files books (Err e) tells says = tt
 
 pub told_init : (params : Params) (held : Option Files) (library : Option LibraryFiles) (files : Files)
     (books : LibraryFiles) (result : Result Answer Stop) → held ≡ Some files

@@ -1,5 +1,5 @@
 -- What the engine's answer to an edit comes to.
-use Rattle.std.proofs.Common.{◌≡◌, ◌⊎◌, ℕ, ◌<◌, true, List, [], length, codes, Option, Some, None, Result, Ok, Err, IfOk, refl, sym, ap, subst, ◌∙◌, inl, inr, arith, length-append}
+use Rattle.std.proofs.Common.{◌≡◌, ◌⊎◌, ℕ, ◌<◌, true, List, [], ◌∷◌, ◌++◌, length, codes, Option, Some, None, Result, Ok, Err, IfOk, refl, sym, ap, subst, ◌∙◌, inl, inr, arith, length-append}
 use Rattle.std.specs.Prelude.{IsErrAnd, IsSomeAnd}
 use Rattle.terrain_base.specs.declared.square.Square.{Square}
 use Rattle.terrain_base.specs.declared.store.Change.{Change}
@@ -20,6 +20,7 @@ use Rattle.db_engine.proofs.CellRows.{refusal_is}
 use Rattle.db_report.specs.declared.done.Edited as word
 use Rattle.db_report.specs.Done.{edited_line_of}
 use Rattle.db_report.specs.Refusal.{refusal_text_of}
+use Rattle.report_text.specs.Words.{joined}
 use Rattle.top_reply.specs.declared.stop.Stop.{Stop}
 use Rattle.top_reply.specs.declared.stop.Stop.TheVariants as stop
 use Rattle.top_reply.specs.Edits.{EditReply, Wanted, command_reply_by, done_edit, done_line, refused_edit, tiles_in, wanted_reply}
@@ -59,6 +60,13 @@ stop_untold answer.NoMemory a st t = t
 
 pub some_line : (line : List ℕ) → 0 < length (done_reply line).text
 some_line line = omega (arith, length-append line (codes "\n"))
+
+some_after : (line rest : List ℕ) (first : ℕ) → 0 < length (line ++ (first ∷ rest))
+some_after [] rest first = omega arith
+some_after (byte ∷ line) rest first = omega arith
+
+pub some_behind : (line more last : List ℕ) → 0 < length (joined (line ∷ codes "\nfound " ∷ more ∷ last ∷ []))
+some_behind line more last = some_after line _ _
 
 pub some_cause : (cause : List ℕ) → 0 < length (refused_reply cause).text
 some_cause cause = omega arith

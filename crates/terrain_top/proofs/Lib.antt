@@ -1,7 +1,9 @@
 pub mod Asked
+pub mod Checks
 pub mod Coming
 pub mod Commands
 pub mod EditsGo
+pub mod Heightmaps
 pub mod Lines
 pub mod Meanings
 pub mod Scripts

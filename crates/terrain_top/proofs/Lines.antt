@@ -34,12 +34,16 @@ done_one ending.Done false e = refl
 done_one ending.Done true e = absurd (cc e)
 done_one ending.Refused false e = absurd (cc e)
 done_one ending.Refused true e = refl
+done_one ending.Found false e = absurd (cc e)
+done_one ending.Found true e = refl
 
 refused_one : (end : Ending) (refused : Bool) → status_at end ≡ status_by refused → (tally_at end).refused ≡ cond refused 1 0 + 0
 refused_one ending.Done false e = refl
 refused_one ending.Done true e = absurd (cc e)
 refused_one ending.Refused false e = absurd (cc e)
 refused_one ending.Refused true e = refl
+refused_one ending.Found false e = absurd (cc e)
+refused_one ending.Found true e = refl
 
 -- ---- one line
 

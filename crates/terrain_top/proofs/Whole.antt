@@ -121,7 +121,7 @@ module _ (params : Params) (files : Files) (held held' : Option Files) (log log'
 
 -- ---- it is made anew
 
-same_files : {held : Option Files} {o : Contents} {s : State} (files : Files) → held ≡ Some files
+pub same_files : {held : Option Files} {o : Contents} {s : State} (files : Files) → held ≡ Some files
     → (h : Holds held o s) → h.files ≡ files
 same_files files is h = let both : Some h.files ≡ Some files = sym h.held_is ∙ is in cc
 

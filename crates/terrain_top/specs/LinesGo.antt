@@ -19,6 +19,7 @@ use Rattle.terrain_top.specs.declared.answer.Ending.TheVariants as ending
 use Rattle.terrain_top.specs.declared.script.LinesAnswer.{LinesAnswer}
 use Rattle.terrain_top.specs.declared.script.LinesAnswer.TheVariants.{All, Ended}
 use Rattle.terrain_top.specs.declared.script.Tally.{Tally}
+use Rattle.terrain_top.specs.Says.{IsPlain}
 
 -- what a line asks for; none where it is passed over
 abbrev pub line_wanted : Line → LibraryFiles → Option Wanted
@@ -32,10 +33,11 @@ IsCommandLine Passed result = IfErr result (λ e. ⊥)
 IsCommandLine (Change edit) result = Unit {0}
 IsCommandLine NoCommand result = Unit {0}
 
--- the counts of one line
+-- the counts of one line: done, or refused
 abbrev pub tally_at : Ending → Tally
 tally_at ending.Done = record { done = 1; refused = 0 }
 tally_at ending.Refused = record { done = 0; refused = 1 }
+tally_at ending.Found = record { done = 0; refused = 1 }
 
 -- what is printed of a line, or handed back where it ends the script
 abbrev pub LineTold : Bool → ℕ → Answer → Option (List ℕ) → Option (List ℕ) → Result LinesAnswer Stop → Type 0
@@ -71,6 +73,11 @@ LinesGo library lines s w w' opened' (Err e) = StopsIn e (turns_of library lines
 abbrev pub IsLive : Bool → LinesAnswer → Type 0
 IsLive live (All tally) = live ≡ true
 IsLive live (Ended answer) = Unit {0}
+
+-- what ends a script finds nothing amiss
+abbrev pub EndsPlain : LinesAnswer → Type 0
+EndsPlain (All tally) = Unit {0}
+EndsPlain (Ended answer) = IsPlain answer
 
 -- and no more of them are counted than this
 abbrev pub IsWithin : ℕ → LinesAnswer → Type 0

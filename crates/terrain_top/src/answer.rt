@@ -1,7 +1,7 @@
 // What a command comes to.
 ghost use Rattle.std.specs.Prelude.{◌≡◌, IfErr, IfOk};
 ghost use Rattle.top_reply.specs.Reply.{done_reply, refused_reply};
-ghost use Rattle.terrain_top.specs.Says.{Says};
+ghost use Rattle.terrain_top.specs.Says.{IsPlain, Says};
 ghost use Rattle.terrain_top.specs.Effects.{OnlyMemory};
 
 use std::alloc::Global;
@@ -14,6 +14,8 @@ pub(crate) enum Ending {
     Done,
     /// The command, or some line of a script, is refused.
     Refused,
+    /// The command found something amiss.
+    Found,
 }
 
 /// The ending of a command that was not stopped, and what is printed of it last: bytes, since a stored note is
@@ -27,6 +29,7 @@ pub(crate) struct Answer {
 /// The answer of a command that is done, by its line.
 pub(crate) fn done(alloc: Global, line: &str) -> Result<Answer, Stop>
     ensures says { IfOk result (Says (done_reply line.now)) }
+    ensures plain { IfOk result IsPlain }
     ensures memory { OnlyMemory result }
 {
     let text = format!(in alloc; "{line}\n")?;
@@ -39,6 +42,7 @@ pub(crate) fn done(alloc: Global, line: &str) -> Result<Answer, Stop>
 /// The answer that a refusal is, by its cause.
 pub(crate) fn refused(alloc: Global, cause: &str) -> Result<Answer, Stop>
     ensures says { IfOk result (Says (refused_reply cause.now)) }
+    ensures plain { IfOk result IsPlain }
     ensures memory { OnlyMemory result }
 {
     let text = format!(in alloc; "refused {cause}\n")?;

@@ -6,6 +6,7 @@ ghost use Rattle.db_engine.specs.Holding.{Holds};
 ghost use Rattle.top_reply.specs.Database.{init_course, rebuilt_course};
 ghost use Rattle.terrain_top.specs.EditGoes.{tiles_of};
 ghost use Rattle.terrain_top.specs.Effects.{OnlyMemory, OnStore};
+ghost use Rattle.terrain_top.specs.Says.{IsPlain};
 ghost use Rattle.terrain_top.specs.Turns.{TurnOf};
 
 use crate::answer::{Answer, done};
@@ -35,6 +36,7 @@ pub(crate) fn answer_to_init<St: Store>(
     ensures goes { (files : Files) → St.holds store.old ≡ Some files
         → TurnOf (init_course params files) (St.holds store.old) (St.holds store.new) (St.log store.old)
         (St.log store.new) work.old work.new result }
+    ensures plain { IfOk result IsPlain }
     ensures store { OnStore (St.faults store.old) (St.faults store.new) result }
     ensures more { work.old ≤ work.new }
 {
@@ -59,6 +61,7 @@ pub(crate) fn answer_to_rebuild<St: Store>(
         → St.holds store.old ≡ Some files
         → TurnOf (rebuilt_course s files) (St.holds store.old) (St.holds store.new) (St.log store.old)
         (St.log store.new) work.old work.new result }
+    ensures plain { IfOk result IsPlain }
     ensures store { OnStore (St.faults store.old) (St.faults store.new) result }
     ensures more { work.old ≤ work.new }
 {

@@ -1,5 +1,5 @@
 // Commands over a database, which is settled first.
-ghost use Rattle.std.specs.Prelude.{◌≡◌, ◌≤◌, true, IfOk, IsErrOf, Some};
+ghost use Rattle.std.specs.Prelude.{◌≡◌, ◌≤◌, false, true, IfOk, IsErrOf, Some};
 ghost use Rattle.terrain_base.specs.Library.{LibraryFiles};
 ghost use Rattle.terrain_base.specs.Step.{Files};
 ghost use Rattle.database.specs.Opening.{Opening, OpensAs};
@@ -8,13 +8,15 @@ ghost use Rattle.db_engine.specs.Holding.{Holds};
 ghost use Rattle.top_words.specs.Meant.{database_meant};
 ghost use Rattle.top_reply.specs.Course.{Course, world};
 ghost use Rattle.top_reply.specs.Database.{IsDatabaseCourse, IsOpenedCourse};
-ghost use Rattle.top_reply.specs.Top.{Tells, database_reads};
+ghost use Rattle.top_reply.specs.Top.{Tells, database_looks, database_reads};
 ghost use Rattle.terrain_top.specs.Comes.{Comes};
 ghost use Rattle.terrain_top.specs.Effects.{StopHasCause};
+ghost use Rattle.terrain_top.specs.Says.{IsPlain};
 ghost use Rattle.terrain_top.specs.Told.{HasOfDatabase};
 
 use crate::answer::Answer;
 use crate::change::answer_to_rebuild;
+use crate::check::answer_to_check;
 use crate::edit::answer_to_edit;
 use crate::engine_answer::answer_of;
 use crate::query::answer_to_query;
@@ -45,6 +47,7 @@ fn answer_opened<St: Store, Li: Library, Si: Sink>(
     ensures same { Li.holds files.new ≡ Li.holds files.old }
     ensures library { StopHasCause Stop.Input (Li.faults files.old) (Li.faults files.new) result }
     ensures reads { IsErrOf result Stop.Input → database_reads (database_meant command.now) ≡ true }
+    ensures plain { database_looks (database_meant command.now) ≡ false → IfOk result IsPlain }
     ensures store { StopHasCause Stop.Store (St.faults store.old) (St.faults store.new) result }
     ensures sink { StopHasCause Stop.Output (Si.faults out.old) (Si.faults out.new) result }
     ensures more { work.old ≤ work.new }
@@ -56,6 +59,7 @@ fn answer_opened<St: Store, Li: Library, Si: Sink>(
             answer_to_apply(alloc, store, opened, files, out, script, work)
         }
         DatabaseCommand::Rebuild => answer_to_rebuild(alloc, store, opened, work),
+        DatabaseCommand::Check => answer_to_check(alloc, store, opened, work),
     }
 }
 
@@ -80,6 +84,7 @@ pub(crate) fn answer_to_database<St: Store, Li: Library, Si: Sink>(
     ensures same { Li.holds files.new ≡ Li.holds files.old }
     ensures library { StopHasCause Stop.Input (Li.faults files.old) (Li.faults files.new) result }
     ensures reads { IsErrOf result Stop.Input → database_reads (database_meant command.now) ≡ true }
+    ensures plain { database_looks (database_meant command.now) ≡ false → IfOk result IsPlain }
     ensures store { StopHasCause Stop.Store (St.faults store.old) (St.faults store.new) result }
     ensures sink { StopHasCause Stop.Output (Si.faults out.old) (Si.faults out.new) result }
     ensures more { work.old ≤ work.new }

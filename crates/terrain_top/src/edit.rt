@@ -14,6 +14,7 @@ ghost use Rattle.top_reply.specs.Top.{Tells, edit_reads};
 ghost use Rattle.terrain_top.specs.EditGoes.{Answers, CellWanted, EditGoes, tiles_of};
 ghost use Rattle.terrain_top.specs.Effects.{Asks, OnlyMemory, OnStore, StopHasCause};
 ghost use Rattle.terrain_top.specs.Meant.{wanted_meant};
+ghost use Rattle.terrain_top.specs.Says.{IsPlain};
 
 use crate::answer::{Answer, done, refused};
 use crate::cell::CELL_LIMIT;
@@ -103,6 +104,7 @@ fn told(
     square: Square,
 ) -> Result<Answer, Stop>
     ensures answers { Answers (done_reply (edited_line_of edited square (tiles_of opened.now))) outcome result }
+    ensures plain { IfOk result IsPlain }
     ensures store { IsErrOf result Stop.Store → IsErrOf outcome engine.StoreFault }
     ensures only { IfErr result (λ stop. (stop ≡ Stop.Store) ⊎ (stop ≡ Stop.NoMemory)) }
 {
@@ -129,6 +131,7 @@ pub(crate) fn carry_out<St: Store>(
     ensures goes { (s : State) → Holds (St.holds store.old) opened.old s
         → EditGoes (wanted_reply (wanted_meant wanted) s) (St.holds store.old) (St.holds store.new)
         (St.log store.old) (St.log store.new) opened.new work.old work.new result }
+    ensures plain { IfOk result IsPlain }
     ensures store { OnStore (St.faults store.old) (St.faults store.new) result }
     ensures more { work.old ≤ work.new }
 {
@@ -169,6 +172,7 @@ pub(crate) fn answer_to_edit<St: Store, Li: Library>(
         → Tells (edit_reads (edit_meant edit.now)) (Li.holds files.old) library
         → EditGoes (edit_reply (edit_meant edit.now) library s) (St.holds store.old) (St.holds store.new)
         (St.log store.old) (St.log store.new) opened.new work.old work.new result }
+    ensures plain { IfOk result IsPlain }
     ensures same { Li.holds files.new ≡ Li.holds files.old }
     ensures library { StopHasCause Stop.Input (Li.faults files.old) (Li.faults files.new) result }
     ensures reads { IsErrOf result Stop.Input → edit_reads (edit_meant edit.now) ≡ true }

@@ -2,7 +2,7 @@
 ghost use Rattle.std.specs.Prelude.{◌≡◌, ◌⊎◌, IfErr, IfOk};
 ghost use Rattle.database.specs.declared.answer.EngineAnswer.TheVariants as engine;
 ghost use Rattle.terrain_top.specs.Effects.{StopsBy};
-ghost use Rattle.terrain_top.specs.Says.{IsTold};
+ghost use Rattle.terrain_top.specs.Says.{IsPlain, IsTold};
 
 use crate::answer::{Answer, refused};
 use database::EngineAnswer;
@@ -23,6 +23,7 @@ fn stop_of(answer: &EngineAnswer) -> Stop
 /// What an answer in place of Ok comes to: a refusal, or a stop by the store or for want of memory.
 pub(crate) fn answer_of(alloc: Global, answer: &EngineAnswer) -> Result<Answer, Stop>
     ensures says { IfOk result (IsTold answer.now) }
+    ensures plain { IfOk result IsPlain }
     ensures stops { IfErr result (StopsBy answer.now) }
 {
     match refusal_text(alloc, answer)? {

@@ -5,9 +5,9 @@ mod answer;
 mod audit;
 mod cell;
 mod change;
+mod check;
+mod convert;
 mod database_command;
-#[cfg(test)]
-mod database_tests;
 mod edit;
 mod engine_answer;
 mod file;
@@ -15,8 +15,6 @@ mod print;
 mod query;
 mod script;
 mod status;
-#[cfg(test)]
-mod tests;
 mod top;
 mod trial;
 

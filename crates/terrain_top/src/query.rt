@@ -4,12 +4,12 @@ ghost use Rattle.db_report.specs.Listing.{list_text_of};
 ghost use Rattle.db_report.specs.Tile.{IsHeightWord};
 ghost use Rattle.mesh_codec.specs.Tile.{header_in};
 ghost use Rattle.terrain_top.specs.Effects.{OnlyMemory, OnStore};
-ghost use Rattle.terrain_top.specs.Says.{Says};
+ghost use Rattle.terrain_top.specs.Says.{IsPlain, Says};
 ghost use Rattle.terrain_base.specs.Step.{Files};
 ghost use Rattle.availability.specs.Existence.{exists_of};
 ghost use Rattle.database.specs.State.{State};
 ghost use Rattle.db_engine.specs.Holding.{Holds};
-ghost use Rattle.top_reply.specs.Query.{IsInspected, IsReplyTo, deps_reply, shown_reply};
+ghost use Rattle.top_reply.specs.Query.{IsInspected, IsReplyTo, deps_reply, heightmap_reply, shown_reply};
 ghost use Rattle.top_reply.specs.Reply.{Reply, text_reply};
 
 use crate::answer::{Answer, Ending, refused};
@@ -17,6 +17,7 @@ use crate::engine_answer::answer_of;
 use availability::exists;
 use database::EngineAnswer;
 use db_engine::{Opened, stored_tile};
+use db_heightmap::heightmap_tile;
 use db_report::{deps_text, list_text, tile_line};
 use mesh_codec::TileView;
 use report_text::tile_refusal_text;
@@ -29,6 +30,7 @@ use top_words::Query;
 // The params and the cells.
 fn answer_to_list(alloc: Global, opened: &Opened) -> Result<Answer, Stop>
     ensures says { IfOk result (Says (text_reply (list_text_of opened.now.params opened.now.rows))) }
+    ensures plain { IfOk result IsPlain }
     ensures memory { OnlyMemory result }
 {
     let text = list_text(alloc, opened.params(), opened.summaries())?;
@@ -41,6 +43,7 @@ fn answer_to_list(alloc: Global, opened: &Opened) -> Result<Answer, Stop>
 // The squares with cells that a tile touches.
 fn answer_to_deps(alloc: Global, opened: &Opened, tile: TileId) -> Result<Answer, Stop>
     ensures says { IfOk result (Says (deps_reply tile opened.now.params.cap opened.now.rows)) }
+    ensures plain { IfOk result IsPlain }
     ensures memory { OnlyMemory result }
 {
     let rows = opened.summaries();
@@ -62,6 +65,7 @@ fn show_tile(alloc: Global, tile: TileId, terrain: &[u8], note: &[u8]) -> Result
     ensures says { IfOk result (λ answer. (least greatest : Option ℤ)
         → IsHeightWord (header_in terrain.now).least least → IsHeightWord (header_in terrain.now).greatest greatest
         → Says (shown_reply tile terrain.now note.now least greatest) answer) }
+    ensures plain { IfOk result IsPlain }
     ensures memory { OnlyMemory result }
 {
     match TileView::read(terrain) {
@@ -92,12 +96,37 @@ fn answer_to_inspect<St: Store>(
     ensures says { (files : Files) (reply : Reply) → St.holds store.old ≡ Some files
         → IsInspected (exists_of opened.now.params.cap opened.now.rows tile) tile files reply
         → IfOk result (Says reply) }
+    ensures plain { IfOk result IsPlain }
     ensures same { St.holds store.new ≡ St.holds store.old }
     ensures quiet { St.log store.new ≡ St.log store.old }
     ensures store { OnStore (St.faults store.old) (St.faults store.new) result }
 {
     match stored_tile(store, opened, tile) {
         Ok(files) => show_tile(alloc, tile, &files.terrain, &files.note),
+        Err(answer) => answer_of(alloc, &answer),
+    }
+}
+
+// A tile in the form heightmap-1.0.
+fn answer_to_heightmap<St: Store>(
+    alloc: Global,
+    store: &mut St,
+    opened: &Opened,
+    tile: TileId,
+) -> Result<Answer, Stop>
+    requires { opened.now.live ≡ true }
+    ensures says { (s : State) → Holds (St.holds store.old) opened.now s
+        → IfOk result (Says (heightmap_reply tile s)) }
+    ensures plain { IfOk result IsPlain }
+    ensures same { St.holds store.new ≡ St.holds store.old }
+    ensures quiet { St.log store.new ≡ St.log store.old }
+    ensures store { OnStore (St.faults store.old) (St.faults store.new) result }
+{
+    match heightmap_tile(alloc, store, opened, tile) {
+        Ok(bytes) => Ok(Answer {
+            ending: Ending::Done,
+            text: bytes,
+        }),
         Err(answer) => answer_of(alloc, &answer),
     }
 }
@@ -112,6 +141,7 @@ pub(crate) fn answer_to_query<St: Store>(
     requires { opened.now.live ≡ true }
     ensures says { (s : State) (files : Files) (reply : Reply) → Holds (St.holds store.old) opened.now s
         → St.holds store.old ≡ Some files → IsReplyTo query s files reply → IfOk result (Says reply) }
+    ensures plain { IfOk result IsPlain }
     ensures same { St.holds store.new ≡ St.holds store.old }
     ensures quiet { St.log store.new ≡ St.log store.old }
     ensures store { OnStore (St.faults store.old) (St.faults store.new) result }
@@ -120,5 +150,6 @@ pub(crate) fn answer_to_query<St: Store>(
         Query::List => answer_to_list(alloc, opened),
         Query::Inspect { tile } => answer_to_inspect(alloc, store, opened, tile),
         Query::Deps { tile } => answer_to_deps(alloc, opened, tile),
+        Query::Heightmap { tile } => answer_to_heightmap(alloc, store, opened, tile),
     }
 }

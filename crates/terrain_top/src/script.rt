@@ -16,10 +16,10 @@ ghost use Rattle.top_reply.specs.Lines.{commands_of, ended_text};
 ghost use Rattle.top_reply.specs.Reply.{Reply};
 ghost use Rattle.terrain_top.specs.Comes.{Comes};
 ghost use Rattle.terrain_top.specs.Effects.{Asks, OnlyMemory, StopHasCause};
-ghost use Rattle.terrain_top.specs.LinesGo.{IsCommandLine, IsLive, IsWithin, LineTold, LinesGo, ended_reply};
+ghost use Rattle.terrain_top.specs.LinesGo.{EndsPlain, IsCommandLine, IsLive, IsWithin, LineTold, LinesGo, ended_reply};
 ghost use Rattle.terrain_top.specs.LinesGo.{line_wanted, tally_at};
 ghost use Rattle.terrain_top.specs.Meant.{wanted_meant};
-ghost use Rattle.terrain_top.specs.Says.{Says};
+ghost use Rattle.terrain_top.specs.Says.{IsPlain, Says};
 
 use crate::answer::{Answer, Ending, refused};
 use crate::edit::{Wanted, carry_out, read_wanted};
@@ -88,7 +88,8 @@ fn tally_of(ending: Ending) -> Tally
             done: 1,
             refused: 0,
         },
-        Ending::Refused => Tally {
+        // No line looks for what is amiss.
+        Ending::Refused | Ending::Found => Tally {
             done: 0,
             refused: 1,
         },
@@ -106,6 +107,7 @@ fn tell_line<Si: Sink>(
 ) -> Result<LinesAnswer, Stop>
     ensures goes { LineTold live number answer.now (Si.taken out.old) (Si.taken out.new) result }
     ensures live { IfOk result (IsLive live) }
+    ensures plain { IfOk result EndsPlain }
     ensures few { IfOk result (IsWithin 1) }
     ensures sink { StopHasCause Stop.Output (Si.faults out.old) (Si.faults out.new) result }
     ensures only { IfErr result (λ stop. (stop ≡ Stop.Output) ⊎ (stop ≡ Stop.NoMemory)) }
@@ -138,6 +140,7 @@ fn do_line<St: Store, Li: Library, Si: Sink>(
         (world (St.holds store.old) (St.log store.old) (Si.taken out.old) work.old)
         (world (St.holds store.new) (St.log store.new) (Si.taken out.new) work.new) opened.new result }
     ensures live { IfOk result (IsLive opened.new.live) }
+    ensures plain { IfOk result EndsPlain }
     ensures few { IfOk result (IsWithin 1) }
     ensures same { Li.holds files.new ≡ Li.holds files.old }
     ensures library { StopHasCause Stop.Input (Li.faults files.old) (Li.faults files.new) result }
@@ -173,6 +176,7 @@ fn do_lines<St: Store, Li: Library, Si: Sink>(
         → Li.holds files.old ≡ Some library → LinesGo library (commands_of 1 (map line_meant lines.now)) s
         (world (St.holds store.old) (St.log store.old) (Si.taken out.old) work.old)
         (world (St.holds store.new) (St.log store.new) (Si.taken out.new) work.new) opened.new result }
+    ensures plain { IfOk result EndsPlain }
     ensures same { Li.holds files.new ≡ Li.holds files.old }
     ensures library { StopHasCause Stop.Input (Li.faults files.old) (Li.faults files.new) result }
     ensures store { StopHasCause Stop.Store (St.faults store.old) (St.faults store.new) result }
@@ -196,6 +200,7 @@ fn do_lines<St: Store, Li: Library, Si: Sink>(
 // The last line of a script's report.
 fn ended(alloc: Global, tally: &Tally) -> Result<Answer, Stop>
     ensures says { IfOk result (Says (ended_reply tally.now.done tally.now.refused)) }
+    ensures plain { IfOk result IsPlain }
     ensures memory { OnlyMemory result }
 {
     let line = script_line(alloc, tally.done, tally.refused)?;
@@ -226,6 +231,7 @@ pub(crate) fn answer_to_apply<St: Store, Li: Library, Si: Sink>(
         → IsApplied (found_in script.now script_limit (finmap.get library script.now)) library s course
         → Comes course (world (St.holds store.old) (St.log store.old) (Si.taken out.old) work.old)
         (world (St.holds store.new) (St.log store.new) (Si.taken out.new) work.new) result }
+    ensures plain { IfOk result IsPlain }
     ensures same { Li.holds files.new ≡ Li.holds files.old }
     ensures library { StopHasCause Stop.Input (Li.faults files.old) (Li.faults files.new) result }
     ensures store { StopHasCause Stop.Store (St.faults store.old) (St.faults store.new) result }

@@ -25,6 +25,7 @@ pub(crate) fn status_of(ended: Result<Ending, Stop>) -> Status
     match ended {
         Ok(Ending::Done) => Status::Done,
         Ok(Ending::Refused) => Status::Refused,
+        Ok(Ending::Found) => Status::Found,
         Err(stop) => status_of_stop(stop),
     }
 }

@@ -9,16 +9,19 @@ ghost use Rattle.top_words.specs.Words as spelled;
 ghost use Rattle.top_reply.specs.Course.{Course, Goes, said, world};
 ghost use Rattle.top_reply.specs.Run.{FaultHasCause, Headline, IsFrontOf, OnStop, StopsReading, StopsStanding};
 ghost use Rattle.top_reply.specs.Status.{IsAnswer};
-ghost use Rattle.top_reply.specs.Top.{HasCourse, IsCourseOf, IsMeant, Tells, makes_tiles, reads_file, touches_store};
+ghost use Rattle.top_reply.specs.Top.{HasCourse, IsCourseOf, IsMeant, Tells, looks_for_faults, makes_tiles};
+ghost use Rattle.top_reply.specs.Top.{reads_file, touches_store};
 ghost use Rattle.top_reply.specs.Top.{usage_reply};
-ghost use Rattle.top_reply.specs.Valid.{IsValid};
+ghost use Rattle.top_reply.specs.Valid.{EndsWell, IsValid};
 ghost use Rattle.terrain_top.specs.Comes.{Comes, Passes};
 ghost use Rattle.terrain_top.specs.Effects.{StopHasCause, StoreStays};
+ghost use Rattle.terrain_top.specs.Says.{IsPlain};
 
 use crate::answer::{Answer, Ending};
 use crate::audit::answer_to_audit;
 use crate::cell::answer_to_cell;
 use crate::change::answer_to_init;
+use crate::convert::answer_to_convert;
 use crate::database_command::answer_to_database;
 use crate::print::print;
 use crate::status::{status_of, status_of_stop};
@@ -30,7 +33,7 @@ use top_words::{Command, command_in};
 
 /// What is printed where the words are no command.
 const USAGE: &str =
-    "usage: terrain DIR init CAP FILL | add FILE | replace FILE | remove SQUARE V | apply SCRIPT | rebuild | list | inspect Z X Y | deps Z X Y | cell FILE | audit FILE | trial COUNT NUMBER\n";
+    "usage: terrain DIR init CAP FILL | add FILE | replace FILE | remove SQUARE V | apply SCRIPT | rebuild | list | inspect Z X Y | deps Z X Y | cell FILE | audit FILE | check | trial COUNT NUMBER | convert FILE | heightmap Z X Y\n";
 
 // Does a command. Its last text is handed back.
 fn answer_to<St: Store, Li: Library, Si: Sink>(
@@ -55,6 +58,7 @@ fn answer_to<St: Store, Li: Library, Si: Sink>(
     ensures idle { makes_tiles (Some (meant command.now)) ≡ false → work.new ≡ work.old }
     ensures reads { IsErrOf result Stop.Input → reads_file (Some (meant command.now)) ≡ true }
     ensures touches { IsErrOf result Stop.Store → touches_store (Some (meant command.now)) ≡ true }
+    ensures plain { looks_for_faults (Some (meant command.now)) ≡ false → IfOk result IsPlain }
     ensures same { Li.holds files.new ≡ Li.holds files.old }
     ensures library { StopHasCause Stop.Input (Li.faults files.old) (Li.faults files.new) result }
     ensures store { StopHasCause Stop.Store (St.faults store.old) (St.faults store.new) result }
@@ -66,6 +70,7 @@ fn answer_to<St: Store, Li: Library, Si: Sink>(
         Command::Database(command) => answer_to_database(alloc, store, files, out, command, work),
         Command::Cell { file } => answer_to_cell(alloc, files, file),
         Command::Audit { file } => answer_to_audit(alloc, files, file),
+        Command::Convert { file } => answer_to_convert(alloc, files, file),
         Command::Trial { count, number } => answer_to_trial(alloc, *count, *number, work),
     }
 }
@@ -92,6 +97,8 @@ fn run_command<St: Store, Li: Library, Si: Sink>(
     ensures idle { makes_tiles (Some (meant command.now)) ≡ false → work.new ≡ work.old }
     ensures reads { IsErrOf result Stop.Input → reads_file (Some (meant command.now)) ≡ true }
     ensures touches { IsErrOf result Stop.Store → touches_store (Some (meant command.now)) ≡ true }
+    ensures plain { looks_for_faults (Some (meant command.now)) ≡ false
+        → IfOk result (λ ending. ending ≢ Ending.Found) }
     ensures same { Li.holds files.new ≡ Li.holds files.old }
     ensures library { StopHasCause Stop.Input (Li.faults files.old) (Li.faults files.new) result }
     ensures store { StopHasCause Stop.Store (St.faults store.old) (St.faults store.new) result }
@@ -134,7 +141,7 @@ fn run_meant<St: Store, Li: Library, Si: Sink>(
         → Tells (reads_file (option_map meant command.entry)) (Li.holds files.old) library → IsAnswer result
         → HasCourse (option_map meant command.entry) (St.holds store.old) (Li.holds files.old) }
     ensures usage { IsAnswer result → ((result ≡ Status.Usage) ↔ (option_map meant command.entry ≡ None)) }
-    ensures never { result ≢ Status.Found }
+    ensures found { result ≡ Status.Found → looks_for_faults (option_map meant command.entry) ≡ true }
     ensures reads { result ≡ Status.InputFault → reads_file (option_map meant command.entry) ≡ true }
     ensures touches { result ≡ Status.StoreFault → touches_store (option_map meant command.entry) ≡ true }
     ensures untouched { touches_store (option_map meant command.entry) ≡ false
@@ -204,17 +211,18 @@ pub fn run<St: Store, Li: Library, Si: Sink>(
         (world (St.holds store.old) (St.log store.old) (Si.taken out.old) work.old)
         (world (St.holds store.new) (St.log store.new) (Si.taken out.new) work.new)) }
 
-    // A valid call that answers at all is done.
+    // A valid call that answers at all is done; of a tile whose mesh does not cover it once an audit says so.
     ensures valid { (command : spelled.Command) → IsMeant (map string_bytes words.now) (Some command)
         → (held : Files) (library : LibraryFiles) → Tells (touches_store (Some command)) (St.holds store.old) held
         → Tells (reads_file (Some command)) (Li.holds files.old) library → IsValid command held library
-        → IsAnswer result → result ≡ Status.Done }
+        → IsAnswer result → EndsWell command result }
 
     // 'Usage' is the answer exactly where the words are no command.
     ensures usage { IsAnswer result → ((result ≡ Status.Usage) ↔ IsMeant (map string_bytes words.now) None) }
 
-    // No command so far finds something amiss.
-    ensures never { result ≢ Status.Found }
+    // Something amiss is found only by a command that looks for it.
+    ensures found { result ≡ Status.Found → (meaning : Option spelled.Command)
+        → IsMeant (map string_bytes words.now) meaning → looks_for_faults meaning ≡ true }
 
     // A fault comes only where its count rose, and no count falls. No file is asked for and no store is touched but
     // by commands that do so.

@@ -6,6 +6,7 @@ ghost use Rattle.top_reply.specs.Course.{Course, world};
 ghost use Rattle.top_reply.specs.Trial.{IsTrialCourse};
 ghost use Rattle.terrain_top.specs.Comes.{Comes};
 ghost use Rattle.terrain_top.specs.Effects.{OnlyMemory};
+ghost use Rattle.terrain_top.specs.Says.{IsPlain};
 
 use crate::answer::{Answer, done};
 use db_report::trial_line;
@@ -25,6 +26,7 @@ pub(crate) fn answer_to_trial(
     ensures comes { (held : Option Files) (log : Option (List Change)) (taken : Option (List ℕ)) (course : Course)
         → IsTrialCourse count number course → Comes course (world held log taken work.old)
         (world held log taken work.new) result }
+    ensures plain { IfOk result IsPlain }
     ensures told { IfOk result (λ answer. (course : Course) × IsTrialCourse count number course) }
     ensures memory { OnlyMemory result }
     ensures more { work.old ≤ work.new }

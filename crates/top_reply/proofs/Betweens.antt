@@ -14,7 +14,7 @@ use Rattle.cell_mosaic.specs.Cells.{IsSoundCell}
 use Rattle.cell_mosaic.specs.Summaries.{summaries_of}
 use Rattle.cell_mosaic.specs.Whole.{key_in}
 use Rattle.db_manifest.specs.Manifest.{ManifestState}
-use Rattle.top_words.specs.Words.{Edit, Add, Replace, Remove, DatabaseCommand, Ask, Change, Apply, Rebuild}
+use Rattle.top_words.specs.Words.{Edit, Add, Replace, Remove, DatabaseCommand, Ask, Change, Apply, Rebuild, Check}
 use Rattle.database.specs.declared.answer.EngineAnswer.{EngineAnswer}
 use Rattle.database.specs.declared.answer.EngineAnswer.TheVariants.{CellPresent, CellAbsent, DatabaseFull}
 use Rattle.database.specs.Commands as database
@@ -26,6 +26,7 @@ use Rattle.database.proofs.Starting.{calls_stand, calls_end, files_stand}
 use Rattle.db_engine.proofs.CellRows.{IsSoundEdit, HasRoomFor, count_is, has_row_is, state_after}
 use Rattle.db_engine.proofs.EditReads.{edit_closed, edit_reads, settles_closed}
 use Rattle.db_engine.proofs.Starts.{has_all}
+use Rattle.top_reply.specs.Check.{check_course}
 use Rattle.top_reply.specs.Course.{Course, Turn, quiet_turn, said, text_turn}
 use Rattle.top_reply.specs.Database.{IsApplied, IsOpenedCourse, rebuilt_course}
 use Rattle.top_reply.specs.Edits.{Wanted, Refused, Wants, command_reply_by, edit_course, edit_reply, wanted, wanted_by, wanted_of, wanted_reply}
@@ -265,6 +266,7 @@ passage (Apply script) library s files course is =
     let by = applied_passage (found_in script script_limit (get library script)) library s course is in
     record { states = by.states; passes = by.passes; reaches = by.reaches }
 passage Rebuild library s files course is = record { states = s ∷ []; passes = refl; reaches = refl }
+passage Check library s files course is = record { states = s ∷ []; passes = refl; reaches = refl }
 
 -- ---- the path of each command
 
@@ -353,6 +355,9 @@ module _ (Is Ends : Files → State → Type 0) (kept : AreKept Is Ends) where
   opened_path Rebuild library holds s files course states is passes ends =
       path_as (rebuilt_course s files).turns course.turns (s ∷ []) states s files (ap (λ (c : Course). c.turns) is)
       passes (kept.rebuild s files ends)
+  opened_path Check library holds s files course states is passes ends =
+      path_as (check_course s is.verdict).turns course.turns (s ∷ []) states s files
+      (ap (λ (c : Course). c.turns) is.course_is) passes (none_leads s files ends, ends)
 
   -- once the files are settled
   pub settled_path : (command : DatabaseCommand) (library : LibraryFiles) → HoldsBytes library → (s : State)

@@ -8,11 +8,12 @@ use Rattle.terrain_base.specs.Overwrite.{all_changed}
 use Rattle.terrain_base.specs.Step.{Files}
 use Rattle.mesh_codec.specs.Tile.{header_in}
 use Rattle.top_words.specs.declared.command.Query.{Query}
-use Rattle.top_words.specs.declared.command.Query.TheVariants.{List as ListCells, Inspect, Deps}
-use Rattle.top_words.specs.Words.{DatabaseCommand, Ask, Change, Apply, Rebuild}
+use Rattle.top_words.specs.declared.command.Query.TheVariants.{List as ListCells, Inspect, Deps, Heightmap}
+use Rattle.top_words.specs.Words.{DatabaseCommand, Ask, Change, Apply, Rebuild, Check}
 use Rattle.database.specs.Commands.{settling}
 use Rattle.database.specs.Opening.{Opening, Opens, OldVersion, NotADatabase, InTrouble}
 use Rattle.database.specs.State.{State, tile_exists}
+use Rattle.top_reply.specs.Check.{check_course}
 use Rattle.top_reply.specs.Course.{Course, said}
 use Rattle.top_reply.specs.Database.{IsApplied, IsDatabaseCourse, IsOpenedCourse, after_settling}
 use Rattle.top_reply.specs.File.{Found, Bytes, NoFile, found_in, script_limit}
@@ -23,6 +24,7 @@ use Rattle.top_reply.specs.Reply.{Reply}
 use Rattle.top_reply.specs.Top.{Tells, database_reads}
 use Rattle.top_reply.proofs.HasLines.{has_lines}
 use Rattle.top_reply.proofs.Heights.{has_height}
+use Rattle.top_reply.proofs.Verdicts.{has_verdict}
 
 -- ---- replies
 
@@ -50,6 +52,7 @@ has_reply : (query : Query) (s : State) (files : Files) → (reply : Reply) × I
 has_reply ListCells s files = (_, refl)
 has_reply (Inspect tile) s files = has_inspected (tile_exists s tile) tile files
 has_reply (Deps tile) s files = (_, refl)
+has_reply (Heightmap tile) s files = (_, refl)
 
 -- ---- courses
 
@@ -63,10 +66,12 @@ pub has_opened : (command : DatabaseCommand) (library : LibraryFiles) (s : State
     → (course : Course) × IsOpenedCourse command library s files course
 has_opened (Ask query) library s files =
     let reply = has_reply query s files in
-    (said reply.0, record { reply = reply.0; answers = reply.1; course_is = refl })
+    (said reply.0, record { reply = reply.0; is = reply.1; course_is = refl })
 has_opened (Change edit) library s files = (_, refl)
 has_opened (Apply script) library s files = has_applied (found_in script script_limit (get library script)) library s
 has_opened Rebuild library s files = (_, refl)
+has_opened Check library s files =
+    let verdict = has_verdict s files in (check_course s verdict.0, record { verdict = verdict.0; is = verdict.1; course_is = refl })
 
 has_course : (command : DatabaseCommand) (library : LibraryFiles) (files : Files) (opening : Opening)
     → (course : Course) × IsDatabaseCourse command library files opening course
@@ -110,3 +115,4 @@ each_passes (Ask query) library s = (_, refl)
 each_passes (Change edit) library s = (_, refl)
 each_passes (Apply script) library s = has_passed (found_in script script_limit (get library script)) library s
 each_passes Rebuild library s = (_, refl)
+each_passes Check library s = (_, refl)

@@ -12,3 +12,4 @@ pub mod Paths
 pub mod Running
 pub mod ToldLines
 pub mod Valid
+pub mod Verdicts

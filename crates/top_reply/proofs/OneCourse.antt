@@ -7,21 +7,27 @@ use Rattle.terrain_base.specs.declared.tile.TileId.{TileId}
 use Rattle.terrain_base.specs.Library.{LibraryFiles}
 use Rattle.terrain_base.specs.Step.{Files}
 use Rattle.terrain_base.proofs.NameOrder.{by_text_total, by_text_exact}
-use Rattle.mesh_codec.specs.Tile.{header_in}
+use Rattle.mesh_codec.specs.declared.refusal.TileRefusal.{TileRefusal}
+use Rattle.mesh_codec.specs.Refusal.{tile_refusal_of}
+use Rattle.mesh_codec.specs.Tile.{header_in, mesh_in}
+use Rattle.mesh_check.proofs.LawProofs.{one_verdict_law}
 use Rattle.report_text.specs.Words.{joined}
 use Rattle.top_words.specs.declared.command.Query.{Query}
-use Rattle.top_words.specs.declared.command.Query.TheVariants.{List as ListCells, Inspect, Deps}
-use Rattle.top_words.specs.Words.{Add, Replace, Remove, DatabaseCommand, Ask, Change, Apply, Rebuild, Command, Init, Database, ReadCell, Audit, Trial}
+use Rattle.top_words.specs.declared.command.Query.TheVariants.{List as ListCells, Inspect, Deps, Heightmap}
+use Rattle.top_words.specs.Words.{Add, Replace, Remove, DatabaseCommand, Ask, Change, Apply, Rebuild, Check, Command, Init, Database, ReadCell, Audit, Convert, Trial}
 use Rattle.database.specs.Opening.{Opening, Opens, OldVersion, NotADatabase, InTrouble, OpensAs}
 use Rattle.database.specs.State.{State, AreFiles, tile_exists}
 use Rattle.database.proofs.Openings.{one_opening}
+use Rattle.db_check.proofs.Exactness.{one_verdict}
 use Rattle.db_report.specs.declared.trial.TrialReport.{TrialReport}
 use Rattle.db_report.specs.Tile.{IsHeightWord}
 use Rattle.db_report.specs.Trial.{trial_line_of}
+use Rattle.top_reply.specs.Audit.{IsAuditReply, IsTileReply, IsTileReplyBy, verdict_reply}
+use Rattle.top_reply.specs.Check.{check_course}
 use Rattle.top_reply.specs.Course.{Course, said}
 use Rattle.top_reply.specs.Database.{IsApplied, IsDatabaseCourse, IsOpenedCourse, after_settling, init_course}
 use Rattle.top_reply.specs.Edits.{edit_course, edit_reply}
-use Rattle.top_reply.specs.File.{Found, Bytes, NoFile, found_in, script_limit}
+use Rattle.top_reply.specs.File.{Found, Bytes, NoFile, IsReplyBy, found_in, script_limit, tile_limit}
 use Rattle.top_reply.specs.Laws.{OneCourse, OneState}
 use Rattle.top_reply.specs.Lines.{after_lines, commands_of, lines_course}
 use Rattle.top_reply.specs.Passed.{ReachesBy}
@@ -70,6 +76,7 @@ one_reply : (query : Query) (s : State) (files : Files) (a b : Reply) → IsRepl
 one_reply ListCells s files a b p q = p ∙ sym q
 one_reply (Inspect tile) s files a b p q = one_inspected (tile_exists s tile) tile files a b p q
 one_reply (Deps tile) s files a b p q = p ∙ sym q
+one_reply (Heightmap tile) s files a b p q = p ∙ sym q
 
 -- ---- over a database
 
@@ -86,7 +93,7 @@ one_opened : (command : DatabaseCommand) (library other : LibraryFiles) (s : Sta
     → (database_reads command ≡ true → library ≡ other)
     → IsOpenedCourse command library s files a → IsOpenedCourse command other s files b → a ≡ b
 one_opened (Ask query) library other s files a b same p q =
-    p.course_is ∙ ap said (one_reply query s files p.reply q.reply p.answers q.answers) ∙ sym q.course_is
+    p.course_is ∙ ap said (one_reply query s files p.reply q.reply p.is q.is) ∙ sym q.course_is
 one_opened (Change (Add file)) library other s files a b same p q =
     p ∙ ap (λ books. edit_course (edit_reply (Add file) books s)) (same refl) ∙ sym q
 one_opened (Change (Replace file)) library other s files a b same p q =
@@ -96,6 +103,8 @@ one_opened (Apply script) library other s files a b same p q =
     let here = subst (λ books. IsApplied (found_in script script_limit (get books script)) books s a) (same refl) p in
     one_applied (found_in script script_limit (get other script)) other s a b here q
 one_opened Rebuild library other s files a b same p q = p ∙ sym q
+one_opened Check library other s files a b same p q =
+    p.course_is ∙ ap (check_course s) (one_verdict s files p.verdict q.verdict p.is q.is) ∙ sym q.course_is
 
 one_of_database : (command : DatabaseCommand) (library other : LibraryFiles) (files : Files) (opening : Opening)
     (a b : Course) → (database_reads command ≡ true → library ≡ other)
@@ -106,6 +115,24 @@ one_of_database command library other files (Opens s mark) a b same p q =
 one_of_database command library other files (OldVersion version) a b same p q = p ∙ sym q
 one_of_database command library other files (NotADatabase line) a b same p q = p ∙ sym q
 one_of_database command library other files (InTrouble trouble) a b same p q = p ∙ sym q
+
+-- ---- an audit
+
+one_reply_by : (Is : List ℕ → Reply → Type 0) → ((bytes : List ℕ) (a b : Reply) → Is bytes a → Is bytes b → a ≡ b)
+    → (found : Found) (a b : Reply) → IsReplyBy Is found a → IsReplyBy Is found b → a ≡ b
+one_reply_by Is one (Bytes bytes) a b p q = one bytes a b p q
+one_reply_by Is one (NoFile cause) a b p q = p ∙ sym q
+
+one_tile_reply : (bytes : List ℕ) (refusal : Option TileRefusal) (a b : Reply) → IsTileReplyBy bytes refusal a
+    → IsTileReplyBy bytes refusal b → a ≡ b
+one_tile_reply bytes None a b p q =
+    p.reply_is ∙ ap (verdict_reply bytes) (one_verdict_law (mesh_in bytes) p.verdict q.verdict p.is q.is) ∙ sym q.reply_is
+one_tile_reply bytes (Some refusal) a b p q = p ∙ sym q
+
+pub one_audit : (file : List ℕ) (held : Option (List ℕ)) (a b : Reply) → IsAuditReply file held a → IsAuditReply file held b
+    → a ≡ b
+one_audit file held a b p q =
+    one_reply_by IsTileReply (λ bytes. one_tile_reply bytes (tile_refusal_of bytes)) (found_in file tile_limit held) a b p q
 
 -- ---- a trial
 
@@ -162,7 +189,11 @@ one_of_command (Some (ReadCell file)) held library a b p q =
     subst (λ books. IsCourse (Some (ReadCell file)) p.files books p.opening a) books p.is ∙ sym q.is
 one_of_command (Some (Audit file)) held library a b p q =
     let books : p.books ≡ q.books = some_same p.books q.books (sym p.library_tells ∙ q.library_tells) in
-    subst (λ books. IsCourse (Some (Audit file)) p.files books p.opening a) books p.is ∙ sym q.is
+    let here = subst (λ books. IsCourse (Some (Audit file)) p.files books p.opening a) books p.is in
+    here.course_is ∙ ap said (one_audit file (get q.books file) here.reply q.is.reply here.is q.is.is) ∙ sym q.is.course_is
+one_of_command (Some (Convert file)) held library a b p q =
+    let books : p.books ≡ q.books = some_same p.books q.books (sym p.library_tells ∙ q.library_tells) in
+    subst (λ books. IsCourse (Some (Convert file)) p.files books p.opening a) books p.is ∙ sym q.is
 one_of_command (Some (Trial count number)) held library a b p q = one_trial count number a b p.is q.is
 
 pub one_course : OneCourse
@@ -183,3 +214,4 @@ one_state (Change edit) library s a b p q = p ∙ sym q
 one_state (Apply script) library s a b p q =
     one_by_lines (found_in script script_limit (get library script)) library s a b p q
 one_state Rebuild library s a b p q = p ∙ sym q
+one_state Check library s a b p q = p ∙ sym q

@@ -8,7 +8,7 @@ use Rattle.terrain_base.specs.Overwrite.{all_changed}
 use Rattle.terrain_base.specs.Step.{Files}
 use Rattle.manifest_lines.specs.declared.state.State.TheVariants.{Closed}
 use Rattle.db_manifest.specs.Manifest.{ManifestState}
-use Rattle.top_words.specs.Words.{DatabaseCommand, Command, Init, Database, ReadCell, Audit, Trial}
+use Rattle.top_words.specs.Words.{DatabaseCommand, Command, Init, Database, ReadCell, Audit, Convert, Trial}
 use Rattle.database.specs.Commands.{rebuild_calls, settling}
 use Rattle.database.specs.Opening.{Opens}
 use Rattle.database.specs.State.{State, AreFiles, ReadsAs, ReadsFor, StandsFor}
@@ -168,6 +168,7 @@ stops_standing (Some (Database command)) held library w w' s same goes = λ file
     stands.reads (settling_stands t mark files stands)
 stops_standing (Some (ReadCell file)) held library w w' s same goes = tt
 stops_standing (Some (Audit file)) held library w w' s same goes = tt
+stops_standing (Some (Convert file)) held library w w' s same goes = tt
 stops_standing (Some (Trial count number)) held library w w' s same goes = tt
 
 pub stops_reading : (meaning : Option Command) (held : Option Files) (library : Option LibraryFiles)
@@ -180,6 +181,7 @@ stops_reading (Some (Database command)) held library w w' s same goes = λ files
     reads (settling_still_reads t mark files reads)
 stops_reading (Some (ReadCell file)) held library w w' s same goes = tt
 stops_reading (Some (Audit file)) held library w w' s same goes = tt
+stops_reading (Some (Convert file)) held library w w' s same goes = tt
 stops_reading (Some (Trial count number)) held library w w' s same goes = tt
 
 -- ---- the headline
@@ -237,6 +239,7 @@ headline good (Some (Database command)) held library w w' s same goes =
     database_arrives good command held library w w' s same goes
 headline good (Some (ReadCell file)) held library w w' s same goes = tt
 headline good (Some (Audit file)) held library w w' s same goes = tt
+headline good (Some (Convert file)) held library w w' s same goes = tt
 headline good (Some (Trial count number)) held library w w' s same goes = tt
 
 -- ---- any number of runs

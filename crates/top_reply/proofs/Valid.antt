@@ -1,21 +1,27 @@
--- A valid call is done.
-use Rattle.std.proofs.Common.{◌≡◌, ℕ, ℤ, Bool, true, false, nat_lt, List, [], Option, Some, None, refl, ap, subst, ◌∙◌, if◌then◌else◌}
+-- A valid call ends well.
+use Rattle.std.proofs.Common.{◌≡◌, ◌⊎◌, inl, inr, ℕ, ℤ, Bool, true, false, nat_lt, List, [], Option, Some, None, refl, sym, ap, subst, ◌∙◌, ⊎_elim, if◌then◌else◌}
 use Rattle.std.specs.FinMap.{get, keys}
 use Rattle.terrain_base.specs.declared.name.Key.TheVariants.{Terrain, Note}
+use Rattle.std.specs.Prelude.{IsSomeAnd}
+use Rattle.terrain_base.specs.declared.square.Square.{Square}
 use Rattle.terrain_base.specs.declared.tile.TileId.{TileId}
 use Rattle.terrain_base.specs.Library.{LibraryFiles}
 use Rattle.terrain_base.specs.Overwrite.{all_changed}
 use Rattle.terrain_base.specs.Step.{Files}
 use Rattle.dted_cell.specs.Refusal.{refusal_of}
 use Rattle.cell_mosaic.specs.Cells.{AreSound}
+use Rattle.hgt_cells.specs.Name.{square_named}
+use Rattle.hgt_cells.specs.Refusal.{hgt_refusal_of}
+use Rattle.mesh_check.specs.declared.verdict.Verdict as mesh
+use Rattle.mesh_check.specs.declared.verdict.Verdict.TheVariants as of_mesh
 use Rattle.mesh_codec.specs.Refusal.{tile_refusal_of}
 use Rattle.mesh_codec.proofs.FirstLaws.{unrefused_by}
 use Rattle.post_bound.proofs.Spans.{bound_keeps_law}
 use Rattle.tile_rule.specs.Tile.{terrain_of, note_of}
 use Rattle.tile_rule.proofs.Tiles.{good_law}
 use Rattle.top_words.specs.declared.command.Query.{Query}
-use Rattle.top_words.specs.declared.command.Query.TheVariants.{List as ListCells, Inspect, Deps}
-use Rattle.top_words.specs.Words.{Add, Replace, Remove, DatabaseCommand, Ask, Change, Apply, Rebuild, Command, Init, Database, ReadCell, Audit, Trial}
+use Rattle.top_words.specs.declared.command.Query.TheVariants.{List as ListCells, Inspect, Deps, Heightmap}
+use Rattle.top_words.specs.Words.{Add, Replace, Remove, DatabaseCommand, Ask, Change, Apply, Rebuild, Check, Command, Init, Database, ReadCell, Audit, Convert, Trial}
 use Rattle.database.specs.Commands.{settling}
 use Rattle.database.specs.Opening.{Opening, Opens, OpensAs}
 use Rattle.database.specs.State.{State, AreFiles, tile_exists, where_it_is}
@@ -23,19 +29,22 @@ use Rattle.database.proofs.Openings.{one_opening}
 use Rattle.database.proofs.Settled.{settling_files}
 use Rattle.top_reply.specs.declared.status.Status.{Status}
 use Rattle.top_reply.specs.declared.status.Status.TheVariants.{Done, Refused, Usage, InputFault, StoreFault, OutputFault, NoMemory, Found}
-use Rattle.top_reply.specs.Audit.{tile_reply, tile_reply_by}
+use Rattle.db_check.proofs.Exactness.{good_exact}
+use Rattle.top_reply.specs.Audit.{IsAudited, IsTileReply, IsTileReplyBy, verdict_reply}
 use Rattle.top_reply.specs.Cell.{read_reply, read_reply_by}
+use Rattle.top_reply.specs.Check.{status_of_verdict}
+use Rattle.top_reply.specs.Convert.{convert_by, converted, converted_by}
 use Rattle.top_reply.specs.Course.{Course, World, Goes}
 use Rattle.top_reply.specs.Database.{IsApplied, IsDatabaseCourse, IsOpenedCourse, init_by}
 use Rattle.top_reply.specs.Edits.{status_by}
-use Rattle.top_reply.specs.File.{found_in, reply_by, script_limit}
-use Rattle.top_reply.specs.Laws.{ValidIsDone}
+use Rattle.top_reply.specs.File.{IsReplyBy, cell_limit, found_in, reply_by, script_limit}
+use Rattle.top_reply.specs.Laws.{ValidEndsWell}
 use Rattle.top_reply.specs.Lines.{commands_of, refused_in}
 use Rattle.top_reply.specs.Query.{IsInspected, IsReplyTo, IsShownBy, shown_by, shown_reply}
 use Rattle.top_reply.specs.Reply.{Reply}
 use Rattle.top_reply.specs.Status.{IsAnswer}
 use Rattle.top_reply.specs.Top.{HasCourse, IsCourse, IsCourseOf, IsOpenedAs, Tells, database_reads, reads_file, touches_store}
-use Rattle.top_reply.specs.Valid.{IsValid, IsValidOfDatabase, IsValidOver, IsValidQuery, IsValidScript}
+use Rattle.top_reply.specs.Valid.{EndsWell, IsValid, IsValidFile, IsValidOfDatabase, IsValidOver, IsValidQuery, IsValidScript}
 use Rattle.top_reply.proofs.OneCourse.{told_same}
 use Rattle.top_reply.proofs.OneLines.{one_list}
 
@@ -81,6 +90,8 @@ reply_done ListCells s files reply are sound valid is = ap (λ told. told.status
 reply_done (Inspect tile) s files reply are sound valid is = inspected_done s files tile reply are sound valid is
 reply_done (Deps tile) s files reply are sound valid is =
     ap (λ told. told.status) is ∙ chosen_done (tile_exists s tile) _ _ valid refl
+reply_done (Heightmap tile) s files reply are sound valid is =
+    ap (λ told. told.status) is ∙ chosen_done (tile_exists s tile) _ _ valid refl
 
 -- ---- over a database
 
@@ -96,11 +107,13 @@ opened_done : (command : DatabaseCommand) (library : LibraryFiles) (s : State) (
     → AreFiles files s → AreSound s.cells → IsValidOver command library s
     → IsOpenedCourse command library s files course → course.status ≡ Done
 opened_done (Ask query) library s files course are sound valid is =
-    ap (λ told. told.status) is.course_is ∙ reply_done query s files is.reply are sound valid is.answers
+    ap (λ told. told.status) is.course_is ∙ reply_done query s files is.reply are sound valid is.is
 opened_done (Change edit) library s files course are sound valid is =
     ap (λ told. told.status) is ∙ ap status_by valid
 opened_done (Apply script) library s files course are sound valid is = script_done script library s course valid is
 opened_done Rebuild library s files course are sound valid is = ap (λ told. told.status) is
+opened_done Check library s files course are sound valid is =
+    ap (λ told. told.status) is.course_is ∙ ap status_of_verdict ((good_exact s files is.verdict is.is).1 are)
 
 database_done : (command : DatabaseCommand) (library : LibraryFiles) (files : Files) (opening : Opening)
     (course : Course)
@@ -121,27 +134,54 @@ database_done command library files opening course opens is valid =
 cell_done : (bytes : List ℕ) → refusal_of bytes ≡ None → (read_reply bytes).status ≡ Done
 cell_done bytes none = ap (λ refusal. (read_reply_by bytes refusal).status) none
 
-tile_done : (bytes : List ℕ) → tile_refusal_of bytes ≡ None → (tile_reply bytes).status ≡ Done
-tile_done bytes none = ap (λ refusal. (tile_reply_by bytes refusal).status) none
+-- good, or something found
+verdict_ends : (bytes : List ℕ) (verdict : mesh.Verdict)
+    → ((verdict_reply bytes verdict).status ≡ Done) ⊎ ((verdict_reply bytes verdict).status ≡ Found)
+verdict_ends bytes of_mesh.Good = inl refl
+verdict_ends bytes (of_mesh.Found finding) = inr refl
+
+audited_ends : (file bytes : List ℕ) (reply : Reply) → IsAudited bytes reply → EndsWell (Audit file) reply.status
+audited_ends file bytes reply is =
+    let same = ap (λ (told : Reply). told.status) is.reply_is in
+    ⊎_elim (λ done. inl (same ∙ done)) (λ found. inr (same ∙ found, tt)) (verdict_ends bytes is.verdict)
+
+tile_ends : (file bytes : List ℕ) (reply : Reply) → tile_refusal_of bytes ≡ None → IsTileReply bytes reply
+    → EndsWell (Audit file) reply.status
+tile_ends file bytes reply none is =
+    audited_ends file bytes reply (subst (λ refusal. IsTileReplyBy bytes refusal reply) none is)
+
+-- a raster
+raster_done : (square : Square) (bytes : List ℕ) → hgt_refusal_of bytes ≡ None → (converted square bytes).status ≡ Done
+raster_done square bytes none = ap (λ refusal. (converted_by square bytes refusal).status) none
+
+convert_done : (file : List ℕ) (library : LibraryFiles) (named : Option Square)
+    → IsSomeAnd named (λ square. IsValidFile file cell_limit library (λ bytes. hgt_refusal_of bytes ≡ None))
+    → (convert_by named file (get library file)).status ≡ Done
+convert_done file library None valid = absurd valid
+convert_done file library (Some square) valid =
+    ap (λ found. (reply_by (converted square) found).status) valid.found ∙ raster_done square valid.bytes valid.fine
 
 command_done : (command : Command) (files : Files) (library : LibraryFiles) (opening : Opening) (course : Course)
     → IsOpenedAs (Some command) files opening → IsCourse (Some command) files library opening course
-    → IsValid command files library → course.status ≡ Done
+    → IsValid command files library → EndsWell command course.status
 command_done (Init params) files library opening course opens is valid =
-    ap (λ told. told.status) is ∙ ap (λ names. (init_by params files names).status) valid
+    inl (ap (λ told. told.status) is ∙ ap (λ names. (init_by params files names).status) valid)
 command_done (Database command) files library opening course opens is valid =
-    database_done command library files opening course opens is valid
+    inl (database_done command library files opening course opens is valid)
 command_done (ReadCell file) files library opening course opens is valid =
-    ap (λ told. told.status) is ∙ ap (λ found. (reply_by read_reply found).status) valid.found
-    ∙ cell_done valid.bytes valid.fine
+    inl (ap (λ told. told.status) is ∙ ap (λ found. (reply_by read_reply found).status) valid.found
+    ∙ cell_done valid.bytes valid.fine)
 command_done (Audit file) files library opening course opens is valid =
-    ap (λ told. told.status) is ∙ ap (λ found. (reply_by tile_reply found).status) valid.found
-    ∙ tile_done valid.bytes valid.fine
+    let reply = subst (λ found. IsReplyBy IsTileReply found is.reply) valid.found is.is in
+    subst (EndsWell (Audit file)) (sym (ap (λ (told : Course). told.status) is.course_is))
+    (tile_ends file valid.bytes is.reply valid.fine reply)
+command_done (Convert file) files library opening course opens is valid =
+    inl (ap (λ (told : Course). told.status) is ∙ convert_done file library (square_named file) valid)
 command_done (Trial count number) files library opening course opens is valid =
-    ap (λ told. told.status) is.course_is
+    inl (ap (λ told. told.status) is.course_is)
 
-pub valid_is_done : ValidIsDone
-valid_is_done command held library course is valid =
+pub valid_ends_well : ValidEndsWell
+valid_ends_well command held library course is valid =
     command_done command is.files is.books is.opening course is.opens is.is valid
 
 -- ---- whatever is told of what is not asked
@@ -161,6 +201,8 @@ same_books (Apply script) files library other same valid =
     subst (λ books. IsValidOfDatabase (Apply script) files books) (same refl) valid
 same_books Rebuild files library other same valid =
     record { state = valid.state; stands = valid.stands; valid = valid.valid }
+same_books Check files library other same valid =
+    record { state = valid.state; stands = valid.stands; valid = valid.valid }
 
 still_valid : (command : Command) (held : Option Files) (library : Option LibraryFiles) (files other : Files)
     (books others : LibraryFiles)
@@ -176,6 +218,8 @@ still_valid (ReadCell file) held library files other books others p q r t valid 
     subst (λ held. IsValid (ReadCell file) other held) (told_same true library books others r t refl) valid
 still_valid (Audit file) held library files other books others p q r t valid =
     subst (λ held. IsValid (Audit file) other held) (told_same true library books others r t refl) valid
+still_valid (Convert file) held library files other books others p q r t valid =
+    subst (λ held. IsValid (Convert file) other held) (told_same true library books others r t refl) valid
 still_valid (Trial count number) held library files other books others p q r t valid = tt
 
 -- ---- a run of a valid call
@@ -191,15 +235,15 @@ answer_is course w w' OutputFault answers goes = absurd answers
 answer_is course w w' NoMemory answers goes = absurd answers
 answer_is course w w' Found answers goes = goes.status_is
 
--- that answers at all is done
-pub valid_done : (command : Command) (held : Option Files) (library : Option LibraryFiles) (w w' : World)
+-- that answers at all ends well
+pub valid_ends : (command : Command) (held : Option Files) (library : Option LibraryFiles) (w w' : World)
     (status : Status) (files : Files) (books : LibraryFiles) → HasCourse (Some command) held library
     → ((course : Course) → IsCourseOf (Some command) held library course → Goes course w w' status)
     → Tells (touches_store (Some command)) held files → Tells (reads_file (Some command)) library books
-    → IsValid command files books → IsAnswer status → status ≡ Done
-valid_done command held library w w' status files books has goes store_tells library_tells valid answers =
+    → IsValid command files books → IsAnswer status → EndsWell command status
+valid_ends command held library w w' status files books has goes store_tells library_tells valid answers =
     let is = has.is in
-    answer_is has.course w w' status answers (goes has.course is)
-    ∙ valid_is_done command held library has.course is
+    subst (EndsWell command) (sym (answer_is has.course w w' status answers (goes has.course is)))
+    (valid_ends_well command held library has.course is
     (still_valid command held library files is.files books is.books store_tells is.store_tells library_tells
-    is.library_tells valid)
+    is.library_tells valid))

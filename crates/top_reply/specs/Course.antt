@@ -55,6 +55,12 @@ text_turn text = record { steps = []; tiles = 0; text = text }
 abbrev pub said : Reply → Course
 said reply = record { status = reply.status; turns = text_turn reply.text ∷ [] }
 
+-- of a reply that is told by a relation
+pub record IsSaid (Is : Reply → Type 0) (course : Course) : Type 0 where
+  pub reply : Reply
+  pub is : Is reply
+  pub course_is : course ≡ said reply
+
 -- ---- how turns go
 
 -- all changes are made and all texts printed

@@ -7,7 +7,7 @@ use Rattle.terrain_base.specs.Library.{LibraryFiles}
 use Rattle.terrain_base.specs.Overwrite.{all_changed}
 use Rattle.terrain_base.specs.Step.{Files, Step}
 use Rattle.top_words.specs.Script.{Line, AreLines}
-use Rattle.top_words.specs.Words.{DatabaseCommand, Ask, Change, Apply, Rebuild}
+use Rattle.top_words.specs.Words.{DatabaseCommand, Ask, Change, Apply, Rebuild, Check}
 use Rattle.top_words.specs.declared.command.Query.{Query}
 use Rattle.database.specs.declared.answer.EngineAnswer.TheVariants as answer
 use Rattle.database.specs.Commands.{existing, rebuild_calls, settling}
@@ -17,12 +17,13 @@ use Rattle.db_files.specs.Serving.{count_existing}
 use Rattle.db_engine.specs.Holding.{no_cells}
 use Rattle.db_engine.specs.Settling.{count_settling}
 use Rattle.db_report.specs.Done.{created_line_of, rebuilt_line_of}
-use Rattle.top_reply.specs.Course.{Course, Turn, quiet_turn, said}
+use Rattle.top_reply.specs.Check.{IsChecked}
+use Rattle.top_reply.specs.Course.{Course, IsSaid, Turn, quiet_turn, said}
 use Rattle.top_reply.specs.Edits.{edit_course, edit_reply, tiles_in}
 use Rattle.top_reply.specs.File.{Found, Bytes, NoFile, found_in, script_limit}
 use Rattle.top_reply.specs.Lines.{commands_of, lines_course}
 use Rattle.top_reply.specs.Query.{IsReplyTo}
-use Rattle.top_reply.specs.Reply.{Reply, cause_of, done_reply, refused_reply}
+use Rattle.top_reply.specs.Reply.{cause_of, done_reply, refused_reply}
 use Rattle.top_reply.specs.declared.status.Status.TheVariants.{Done}
 
 -- ---- a database begins
@@ -45,10 +46,8 @@ init_course params files = init_by params files (keys files)
 -- ---- over a database that is settled
 
 -- the files are those that settling left
-pub record IsAsked (query : Query) (s : State) (files : Files) (course : Course) : Type 0 where
-  pub reply : Reply
-  pub answers : IsReplyTo query s files reply
-  pub course_is : course ≡ said reply
+abbrev pub IsAsked : Query → State → Files → Course → Type 0
+IsAsked query s files course = IsSaid (IsReplyTo query s files) course
 
 -- the script's bytes have these lines, and no other
 pub record IsScript (library : LibraryFiles) (s : State) (bytes : List ℕ) (course : Course) : Type 0 where
@@ -76,6 +75,7 @@ IsOpenedCourse (Change edit) library s files course = course ≡ edit_course (ed
 IsOpenedCourse (Apply script) library s files course =
     IsApplied (found_in script script_limit (get library script)) library s course
 IsOpenedCourse Rebuild library s files course = course ≡ rebuilt_course s files
+IsOpenedCourse Check library s files course = IsChecked s files course
 
 -- ---- settling comes first
 

@@ -29,6 +29,11 @@ abbrev pub reply_by : (List ℕ → Reply) → Found → Reply
 reply_by read (Bytes bytes) = read bytes
 reply_by read (NoFile cause) = refused_reply cause
 
+-- the same, where the reply to the bytes is a relation
+abbrev pub IsReplyBy : (List ℕ → Reply → Type 0) → Found → Reply → Type 0
+IsReplyBy Is (Bytes bytes) reply = Is bytes reply
+IsReplyBy Is (NoFile cause) reply = reply ≡ refused_reply cause
+
 abbrev pub file_reply : List ℕ → ℕ → (List ℕ → Reply) → Option (List ℕ) → Reply
 file_reply file limit read held = reply_by read (found_in file limit held)
 

@@ -8,7 +8,6 @@ use Rattle.top_words.specs.Words.{Command, Database, DatabaseCommand}
 use Rattle.database.specs.Opening.{Opening, OpensAs}
 use Rattle.database.specs.State.{State, IsState, AreFiles, StandsFor}
 use Rattle.db_engine.specs.Holding.{no_cells}
-use Rattle.top_reply.specs.declared.status.Status.TheVariants.{Done}
 use Rattle.top_reply.specs.declared.stop.Stop.{Stop}
 use Rattle.top_reply.specs.Course.{Course, World, quiet_turn}
 use Rattle.top_reply.specs.Good.{IsGoodDatabase}
@@ -17,7 +16,7 @@ use Rattle.top_reply.specs.Passed.{Passes, Reaches, StopsBetween}
 use Rattle.top_reply.specs.Run.{Arrives, HoldsFilesOf}
 use Rattle.top_reply.specs.Told.{StopsTold, lines_told}
 use Rattle.top_reply.specs.Top.{HasCourse, IsCourseOf}
-use Rattle.top_reply.specs.Valid.{IsValid}
+use Rattle.top_reply.specs.Valid.{EndsWell, IsValid}
 
 -- a command has one course
 abbrev pub OneCourse : Type 0
@@ -51,11 +50,11 @@ LinesAreTold Is = (library : LibraryFiles) (bytes : List ℕ) (lines : List Line
     → StopsBetween Is s states (quiet_turn steps tiles ∷ (lines_course library (commands_of 1 lines) s).turns) e w w'
     → w.taken ≡ Some taken → w'.taken ≡ Some (taken ++ more) → StopsTold Is e s states (lines_told more) w'.held
 
--- the course of a valid call is done
-abbrev pub ValidIsDone : Type 0
-ValidIsDone = (command : Command) (held : Option Files) (library : Option LibraryFiles) (course : Course)
+-- the course of a valid call ends well
+abbrev pub ValidEndsWell : Type 0
+ValidEndsWell = (command : Command) (held : Option Files) (library : Option LibraryFiles) (course : Course)
     → (is : IsCourseOf (Some command) held library course) → IsValid command is.files is.books
-    → course.status ≡ Done
+    → EndsWell command course.status
 
 -- ---- any number of runs
 

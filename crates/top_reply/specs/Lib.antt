@@ -1,5 +1,7 @@
 pub mod Audit
 pub mod Cell
+pub mod Check
+pub mod Convert
 pub mod Course
 pub mod Database
 pub mod Edits

@@ -4,7 +4,7 @@ use Rattle.std.specs.FinMap.{get}
 use Rattle.terrain_base.specs.Library.{LibraryFiles}
 use Rattle.terrain_base.specs.Step.{Files}
 use Rattle.top_words.specs.Script.{Line, AreLines}
-use Rattle.top_words.specs.Words.{DatabaseCommand, Ask, Change, Apply, Rebuild}
+use Rattle.top_words.specs.Words.{DatabaseCommand, Ask, Change, Apply, Rebuild, Check}
 use Rattle.database.specs.State.{State}
 use Rattle.top_reply.specs.declared.stop.Stop.{Stop}
 use Rattle.top_reply.specs.declared.stop.Stop.TheVariants as stop
@@ -31,6 +31,7 @@ Reaches (Ask query) library s t = t ≡ s
 Reaches (Change edit) library s t = t ≡ (edit_reply edit library s).next
 Reaches (Apply script) library s t = ReachesBy (found_in script script_limit (get library script)) library s t
 Reaches Rebuild library s t = t ≡ s
+Reaches Check library s t = t ≡ s
 
 -- ---- the states that it passes, one after each turn
 
@@ -50,6 +51,7 @@ Passes (Ask query) library s states = states ≡ s ∷ []
 Passes (Change edit) library s states = states ≡ (edit_reply edit library s).next ∷ []
 Passes (Apply script) library s states = PassesBy (found_in script script_limit (get library script)) library s states
 Passes Rebuild library s states = states ≡ s ∷ []
+Passes Check library s states = states ≡ s ∷ []
 
 -- the state after so many turns, the last one where there are fewer
 abbrev pub state_at : State → List State → ℕ → State

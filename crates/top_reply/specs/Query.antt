@@ -11,10 +11,11 @@ use Rattle.mesh_codec.specs.Tile.{header_in}
 use Rattle.cell_mosaic.specs.Summaries.{summaries_of}
 use Rattle.availability.specs.Existence.{exists_of}
 use Rattle.tile_deps.specs.Squares.{squares_of, touching}
+use Rattle.heightmap_out.specs.Tile.{heightmap_of}
 use Rattle.report_text.specs.Words.{joined}
 use Rattle.report_text.specs.TileRefusal.{tile_refusal_text_of}
 use Rattle.top_words.specs.declared.command.Query.{Query}
-use Rattle.top_words.specs.declared.command.Query.TheVariants.{List as ListCells, Inspect, Deps}
+use Rattle.top_words.specs.declared.command.Query.TheVariants.{List as ListCells, Inspect, Deps, Heightmap}
 use Rattle.database.specs.declared.answer.EngineAnswer.TheVariants.{NoTile, TileLost}
 use Rattle.database.specs.State.{State, tile_exists}
 use Rattle.db_report.specs.Listing.{deps_text_of, list_text_of}
@@ -25,6 +26,12 @@ use Rattle.top_reply.specs.Reply.{Reply, cause_of, refused_reply, text_reply}
 abbrev pub deps_reply : TileId → ℕ → List Summary → Reply
 deps_reply tile cap rows =
     if exists_of cap rows tile then text_reply (deps_text_of tile (touching tile (squares_of rows)))
+    else refused_reply (cause_of (NoTile tile))
+
+-- an existing tile in the form heightmap-1.0
+abbrev pub heightmap_reply : TileId → State → Reply
+heightmap_reply tile s =
+    if tile_exists s tile then text_reply (heightmap_of s.params s.cells tile)
     else refused_reply (cause_of (NoTile tile))
 
 -- ---- a stored tile
@@ -63,3 +70,4 @@ abbrev pub IsReplyTo : Query → State → Files → Reply → Type 0
 IsReplyTo ListCells s files reply = reply ≡ text_reply (list_text_of s.params (summaries_of s.cells))
 IsReplyTo (Inspect tile) s files reply = IsInspected (tile_exists s tile) tile files reply
 IsReplyTo (Deps tile) s files reply = reply ≡ deps_reply tile s.params.cap (summaries_of s.cells)
+IsReplyTo (Heightmap tile) s files reply = reply ≡ heightmap_reply tile s

@@ -8,7 +8,7 @@ use Rattle.terrain_base.specs.Run.{SomeDone}
 use Rattle.terrain_base.specs.Sink.{FrontTaken}
 use Rattle.terrain_base.specs.Step.{Files}
 use Rattle.db_manifest.specs.Manifest.{ManifestState}
-use Rattle.top_words.specs.Words.{DatabaseCommand, Command, Init, Database, ReadCell, Audit, Trial}
+use Rattle.top_words.specs.Words.{DatabaseCommand, Command, Init, Database, ReadCell, Audit, Convert, Trial}
 use Rattle.database.specs.Commands.{settling}
 use Rattle.database.specs.State.{State, IsState, AreFiles, ReadsAs, ReadsFor, StandsMarked, StandsFor}
 use Rattle.db_engine.specs.Holding.{no_cells}
@@ -50,6 +50,7 @@ Headline (Some (Database command)) held library held' status = (files : Files) (
     → IsAnswer status → Arrives command books s held'
 Headline (Some (ReadCell file)) held library held' status = Unit {0}
 Headline (Some (Audit file)) held library held' status = Unit {0}
+Headline (Some (Convert file)) held library held' status = Unit {0}
 Headline (Some (Trial count number)) held library held' status = Unit {0}
 
 -- ---- stops
@@ -88,6 +89,7 @@ StopsStanding (Some (Database command)) held library w w' status =
     → StopsFrom StandsFor command books s mark files w w' status
 StopsStanding (Some (ReadCell file)) held library w w' status = Unit {0}
 StopsStanding (Some (Audit file)) held library w w' status = Unit {0}
+StopsStanding (Some (Convert file)) held library w w' status = Unit {0}
 StopsStanding (Some (Trial count number)) held library w w' status = Unit {0}
 
 -- and over files that only read as a state it leaves files that read as one
@@ -100,6 +102,7 @@ StopsReading (Some (Database command)) held library w w' status =
     → StopsFrom ReadsFor command books s mark files w w' status
 StopsReading (Some (ReadCell file)) held library w w' status = Unit {0}
 StopsReading (Some (Audit file)) held library w w' status = Unit {0}
+StopsReading (Some (Convert file)) held library w w' status = Unit {0}
 StopsReading (Some (Trial count number)) held library w w' status = Unit {0}
 
 -- ---- faults

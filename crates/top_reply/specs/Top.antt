@@ -3,12 +3,13 @@ use Rattle.std.specs.Prelude.{◌≡◌, ℕ, Bool, true, false, List, codes, Op
 use Rattle.std.specs.FinMap.{get}
 use Rattle.terrain_base.specs.Library.{LibraryFiles}
 use Rattle.terrain_base.specs.Step.{Files}
-use Rattle.top_words.specs.Words.{Edit, Add, Replace, Remove, DatabaseCommand, Ask, Change, Apply, Rebuild, Command, Init, Database, ReadCell, Audit, Trial, Spells}
+use Rattle.top_words.specs.Words.{Edit, Add, Replace, Remove, DatabaseCommand, Ask, Change, Apply, Rebuild, Check, Command, Init, Database, ReadCell, Audit, Convert, Trial, Spells}
 use Rattle.database.specs.Opening.{Opening, OpensAs}
 use Rattle.top_reply.specs.declared.status.Status.TheVariants.{Usage}
-use Rattle.top_reply.specs.Audit.{audit_reply}
+use Rattle.top_reply.specs.Audit.{IsAuditReply}
 use Rattle.top_reply.specs.Cell.{cell_reply}
-use Rattle.top_reply.specs.Course.{Course, said}
+use Rattle.top_reply.specs.Convert.{convert_reply}
+use Rattle.top_reply.specs.Course.{Course, IsSaid, said}
 use Rattle.top_reply.specs.Database.{IsDatabaseCourse, init_course}
 use Rattle.top_reply.specs.Reply.{Reply}
 use Rattle.top_reply.specs.Trial.{IsTrialCourse}
@@ -27,6 +28,7 @@ touches_store (Some (Init params)) = true
 touches_store (Some (Database command)) = true
 touches_store (Some (ReadCell file)) = false
 touches_store (Some (Audit file)) = false
+touches_store (Some (Convert file)) = false
 touches_store (Some (Trial count number)) = false
 
 abbrev pub edit_reads : Edit → Bool
@@ -39,6 +41,7 @@ database_reads (Ask query) = false
 database_reads (Change edit) = edit_reads edit
 database_reads (Apply script) = true
 database_reads Rebuild = false
+database_reads Check = false
 
 -- whether it asks for a file outside
 abbrev pub reads_file : Option Command → Bool
@@ -47,6 +50,7 @@ reads_file (Some (Init params)) = false
 reads_file (Some (Database command)) = database_reads command
 reads_file (Some (ReadCell file)) = true
 reads_file (Some (Audit file)) = true
+reads_file (Some (Convert file)) = true
 reads_file (Some (Trial count number)) = false
 
 -- whether it may make tiles
@@ -56,12 +60,30 @@ makes_tiles (Some (Init params)) = true
 makes_tiles (Some (Database command)) = true
 makes_tiles (Some (ReadCell file)) = false
 makes_tiles (Some (Audit file)) = false
+makes_tiles (Some (Convert file)) = false
 makes_tiles (Some (Trial count number)) = true
+
+abbrev pub database_looks : DatabaseCommand → Bool
+database_looks (Ask query) = false
+database_looks (Change edit) = false
+database_looks (Apply script) = false
+database_looks Rebuild = false
+database_looks Check = true
+
+-- whether it looks for what is amiss
+abbrev pub looks_for_faults : Option Command → Bool
+looks_for_faults None = false
+looks_for_faults (Some (Init params)) = false
+looks_for_faults (Some (Database command)) = database_looks command
+looks_for_faults (Some (ReadCell file)) = false
+looks_for_faults (Some (Audit file)) = true
+looks_for_faults (Some (Convert file)) = false
+looks_for_faults (Some (Trial count number)) = false
 
 -- ---- the course
 
 abbrev pub usage_text : List ℕ
-usage_text = codes "usage: terrain DIR init CAP FILL | add FILE | replace FILE | remove SQUARE V | apply SCRIPT | rebuild | list | inspect Z X Y | deps Z X Y | cell FILE | audit FILE | trial COUNT NUMBER\n"
+usage_text = codes "usage: terrain DIR init CAP FILL | add FILE | replace FILE | remove SQUARE V | apply SCRIPT | rebuild | list | inspect Z X Y | deps Z X Y | cell FILE | audit FILE | check | trial COUNT NUMBER | convert FILE | heightmap Z X Y\n"
 
 abbrev pub usage_reply : Reply
 usage_reply = record { status = Usage; text = usage_text }
@@ -73,7 +95,8 @@ IsCourse (Some (Init params)) files library opening course = course ≡ init_cou
 IsCourse (Some (Database command)) files library opening course =
     IsDatabaseCourse command library files opening course
 IsCourse (Some (ReadCell file)) files library opening course = course ≡ said (cell_reply file (get library file))
-IsCourse (Some (Audit file)) files library opening course = course ≡ said (audit_reply file (get library file))
+IsCourse (Some (Audit file)) files library opening course = IsSaid (IsAuditReply file (get library file)) course
+IsCourse (Some (Convert file)) files library opening course = course ≡ said (convert_reply file (get library file))
 IsCourse (Some (Trial count number)) files library opening course = IsTrialCourse count number course
 
 -- only a command on a database asks what the files open as
@@ -83,6 +106,7 @@ IsOpenedAs (Some (Init params)) files opening = Unit {0}
 IsOpenedAs (Some (Database command)) files opening = OpensAs files opening
 IsOpenedAs (Some (ReadCell file)) files opening = Unit {0}
 IsOpenedAs (Some (Audit file)) files opening = Unit {0}
+IsOpenedAs (Some (Convert file)) files opening = Unit {0}
 IsOpenedAs (Some (Trial count number)) files opening = Unit {0}
 
 -- an object that is asked tells that this is what it holds

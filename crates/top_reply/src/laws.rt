@@ -2,7 +2,7 @@
 //! a law.
 ghost use Rattle.database.specs.State.{ReadsFor, StandsFor};
 ghost use Rattle.top_reply.specs.Laws.{EachHasCourse, EachPasses, FilesAreGood, LinesAreTold, OneCourse, OneState};
-ghost use Rattle.top_reply.specs.Laws.{RunsChain, ValidIsDone};
+ghost use Rattle.top_reply.specs.Laws.{RunsChain, ValidEndsWell};
 
 /// A command has one course.
 pub fn one_course()
@@ -38,9 +38,9 @@ pub fn lines_are_told()
     ensures reading { LinesAreTold ReadsFor }
 {}
 
-/// The course of a valid call is done.
-pub fn valid_is_done()
-    ensures { ValidIsDone }
+/// The course of a valid call is done; that of an audit may find that the mesh does not cover its tile once.
+pub fn valid_ends_well()
+    ensures { ValidEndsWell }
 {}
 
 /// From a beginning on, after any number of answered runs, the files are those of the state after all accepted

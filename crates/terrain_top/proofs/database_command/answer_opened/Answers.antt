@@ -26,3 +26,7 @@ pub returns-in-Rebuild-clause-comes : goal.returns-in-Rebuild-clause-comes
 returns-in-Rebuild-clause-comes g c = λ s held library course h is tells of.
     comes_as (rebuilt_course s held) course _ _ c.answer_to_rebuild.result (sym (rw c.in-Rebuild.is at of))
     (turn_comes (rebuilt_course s held) _ _ c.answer_to_rebuild.result (c.answer_to_rebuild.ensures.goes s held h is) refl)
+
+pub returns-in-Check-clause-comes : goal.returns-in-Check-clause-comes
+returns-in-Check-clause-comes g c = λ s held library course h is tells of.
+    turn_comes course _ _ c.answer_to_check.result (c.answer_to_check.ensures.goes s held course h is (rw c.in-Check.is at of)) refl

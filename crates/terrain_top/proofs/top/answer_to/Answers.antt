@@ -1,11 +1,11 @@
 use Rattle.std.proofs.Common.{refl, sym, arith}
 use Rattle.std.specs.FinMap.{get}
 use Rattle.top_words.specs.Meant.{database_meant}
-use Rattle.top_reply.specs.Audit.{audit_reply}
 use Rattle.top_reply.specs.Cell.{cell_reply}
+use Rattle.top_reply.specs.Convert.{convert_reply}
 use Rattle.top_reply.specs.Database.{init_course}
 use Rattle.terrain_top.proofs.Coming.{comes_as, turn_comes}
-use Rattle.terrain_top.proofs.Commands.{read_comes, some_cell_reply, some_audit_reply, told_cell, told_audit, told_init, told_trial, told_database}
+use Rattle.terrain_top.proofs.Commands.{audit_comes, read_comes, some_cell_reply, some_convert_reply, told_cell, told_convert, told_audit, told_init, told_trial, told_database}
 use Rattle.terrain_top.proofs.top.answer_to.Goals as goal
 
 pub returns-in-Init-clause-comes : goal.returns-in-Init-clause-comes
@@ -33,12 +33,21 @@ returns-in-Cell-clause-told g c = rw c.in-Cell.is (λ held library store files.
 
 pub returns-in-Audit-clause-comes : goal.returns-in-Audit-clause-comes
 returns-in-Audit-clause-comes g c = rw c.in-Audit.is (λ course of.
-    read_comes (λ books. audit_reply c.in-Audit.file.now (get books c.in-Audit.file.now)) of.books (g.Li.Library.holds c.args.files.now) course _ _ c.answer_to_audit.result of.library_tells of.is
-    (some_audit_reply c.in-Audit.file.now (get of.books c.in-Audit.file.now)) c.answer_to_audit.ensures.says c.answer_to_audit.ensures.asks.only refl refl refl (omega arith))
+    audit_comes c.in-Audit.file.now of.books (g.Li.Library.holds c.args.files.now) course _ _ c.answer_to_audit.result of.library_tells of.is
+    c.answer_to_audit.ensures.says c.answer_to_audit.ensures.asks.only refl refl refl (omega arith))
 
 pub returns-in-Audit-clause-told : goal.returns-in-Audit-clause-told
 returns-in-Audit-clause-told g c = rw c.in-Audit.is (λ held library store files.
-    told_audit c.in-Audit.file.now (g.St.Store.holds c.args.store.now) (g.Li.Library.holds c.args.files.now) held library c.answer_to_audit.result files)
+    told_audit c.in-Audit.file.now (g.St.Store.holds c.args.store.now) (g.Li.Library.holds c.args.files.now) held library c.answer_to_audit.result files c.answer_to_audit.ensures.says)
+
+pub returns-in-Convert-clause-comes : goal.returns-in-Convert-clause-comes
+returns-in-Convert-clause-comes g c = rw c.in-Convert.is (λ course of.
+    read_comes (λ books. convert_reply c.in-Convert.file.now (get books c.in-Convert.file.now)) of.books (g.Li.Library.holds c.args.files.now) course _ _ c.answer_to_convert.result of.library_tells of.is
+    (some_convert_reply c.in-Convert.file.now (get of.books c.in-Convert.file.now)) c.answer_to_convert.ensures.says c.answer_to_convert.ensures.asks.only refl refl refl (omega arith))
+
+pub returns-in-Convert-clause-told : goal.returns-in-Convert-clause-told
+returns-in-Convert-clause-told g c = rw c.in-Convert.is (λ held library store files.
+    told_convert c.in-Convert.file.now (g.St.Store.holds c.args.store.now) (g.Li.Library.holds c.args.files.now) held library c.answer_to_convert.result files)
 
 pub returns-in-Trial-clause-comes : goal.returns-in-Trial-clause-comes
 returns-in-Trial-clause-comes g c = rw c.in-Trial.is (λ course of. c.answer_to_trial.ensures.comes _ _ _ course of.is)

@@ -1,6 +1,6 @@
 use Rattle.std.proofs.Common.{refl, subst, sym, map, None, Some, string_bytes}
 use Rattle.top_reply.proofs.Running.{headline, stops_standing, stops_reading, fronts}
-use Rattle.top_reply.proofs.Valid.{valid_done}
+use Rattle.top_reply.proofs.Valid.{valid_ends}
 use Rattle.top_reply.specs.Top.{IsMeant}
 use Rattle.terrain_top.proofs.Commands.{meant_goes, meant_has}
 use Rattle.terrain_top.proofs.top.run.Goals as goal
@@ -32,4 +32,4 @@ pub returns-clause-valid : goal.returns-clause-valid
 returns-clause-valid g c = λ command is held library store files valid answers.
     let one = c.command_of.ensures.one (Some command) is in
     let has = meant_has (Some command) _ _ _ held library c.run_meant.result one c.run_meant.ensures.told store files answers in
-    valid_done command _ _ _ _ c.run_meant.result held library has (meant_goes (Some command) _ _ _ _ _ c.run_meant.result one c.run_meant.ensures.replies) store files valid answers
+    valid_ends command _ _ _ _ c.run_meant.result held library has (meant_goes (Some command) _ _ _ _ _ c.run_meant.result one c.run_meant.ensures.replies) store files valid answers
