@@ -1,88 +1,77 @@
 #!/usr/bin/env python3
-"""Times `audit` on a tile of 65536 vertices, best of five.
+"""Times `audit` on three tiles, best of five.
 
-usage: bench/audit.py [PEER]
+usage: bench/audit.py [PEER WORD..]
 
-Prints the seconds and megabytes a second of `./terrain . audit FILE` for a tile whose vertices are a grid of 256 by 256
-points, with 130050 triangles, and the greatest memory of a run. Given the path of a PEER program with the same
-command line, it times that too, run by run in turn, and prints the ratio. The first lines of both must be the same.
+- the densest tile of this program: all 4489 points of a grid of 67 by 67, with 8712 triangles
+- an irregular mesh of some 4000 vertices: a grid of 63 by 63 points, of which none inside shares its u or v with another
+- 65536 vertices, a grid of 256 by 256 points, which are too many to be looked at
+
+Prints the seconds and megabytes a second of `./terrain . audit FILE`, and the greatest memory of a run. Given a PEER's
+command line, it times that too, run by run in turn, and prints the ratio. Both must print the same.
 """
 
 import pathlib
-import struct
 import sys
 import tempfile
 
 import timing
 
-SIDE = 256
+sys.path.insert(0, str(timing.ROOT / "checks"))
+
+import meshes  # noqa: E402
+
+LAST = 32767
 
 
-def first_use(triangles):
-    """The points of the triangles in the order of their first use."""
-    order = {}
-    for triangle in triangles:
-        for point in triangle:
-            order.setdefault(point, len(order))
-    return order
-
-
-def grid_triangles():
+def grid_triangles(side):
     """Two triangles for each square between grid points, row by row."""
-    for row in range(SIDE - 1):
-        for column in range(SIDE - 1):
+    for row in range(side - 1):
+        for column in range(side - 1):
             south_west, south_east = (column, row), (column + 1, row)
             north_west, north_east = (column, row + 1), (column + 1, row + 1)
             yield south_west, south_east, north_east
             yield south_west, north_east, north_west
 
 
-def differences(codes):
-    """Zigzag differences, each from the code before it."""
-    last = 0
-    for code in codes:
-        yield (code - last) * 2 if code >= last else (last - code) * 2 - 1
-        last = code
+def tile(side, place):
+    """The bytes of a tile of grid points, whose u, v and height `place(column, row)` gives."""
+    triangles = list(grid_triangles(side))
+    order = {}
+    for triangle in triangles:
+        for point in triangle:
+            order.setdefault(point, len(order))
+    return meshes.tile([place(*point) for point in order], [tuple(order[point] for point in triangle) for triangle in triangles])
 
 
-def mark_codes(indexes):
-    """Each index as its distance from the high water mark."""
-    mark = 0
-    for index in indexes:
-        yield mark - index
-        mark += index == mark
+def even(side):
+    """Points at even steps, with heights that go up and down."""
+    def place(column, row):
+        return column * LAST // (side - 1), row * LAST // (side - 1), (column * 7919 + row * 104729) % (LAST + 1)
+
+    return place
 
 
-def words(numbers):
-    numbers = list(numbers)
-    return struct.pack(f"<{len(numbers)}H", *numbers)
+def uneven(side):
+    """The same, but each point inside is moved, so that it shares its u and its v with no other."""
+    def place(column, row):
+        u, v, height = even(side)(column, row)
+        inside = 0 < column < side - 1 and 0 < row < side - 1
+        return (u + 3 * row - side, v + 3 * column - side, height) if inside else (u, v, height)
 
-
-def tile():
-    """The bytes of the tile, with heights of a tilted plane and edge lists of all border points."""
-    triangles = list(grid_triangles())
-    order = first_use(triangles)
-    step = 32767 // (SIDE - 1)
-    place = lambda line: 32767 if line == SIDE - 1 else line * step
-    out = bytearray(struct.pack("<3d2f7d", 0, 0, 6356752, 0, 1000, 0, 0, 6356752, 300000, 0, 0, 1))
-    out += struct.pack("<I", len(order))
-    out += words(differences(place(column) for column, _ in order))
-    out += words(differences(place(row) for _, row in order))
-    out += words(differences((place(column) + place(row)) // 2 for column, row in order))
-    out += struct.pack("<I", len(triangles))
-    out += words(mark_codes(order[point] for triangle in triangles for point in triangle))
-    last = SIDE - 1
-    for edge in ([(0, k) for k in range(SIDE)], [(k, 0) for k in range(SIDE)],
-                 [(last, k) for k in range(SIDE)], [(k, last) for k in range(SIDE)]):
-        out += struct.pack("<I", SIDE) + words(order[point] for point in edge)
-    return out
+    return place
 
 
 def main():
     with tempfile.TemporaryDirectory() as folder:
-        path = pathlib.Path(folder) / "256.terrain"
-        path.write_bytes(tile())
-        timing.compare("65536 vertices", "audit", path, sys.argv[1:])
+        for title, content in (
+            ("the densest tile", tile(67, even(67))),
+            ("3969 vertices, none inside in another's row", tile(63, uneven(63))),
+            ("65536 vertices", tile(256, even(256))),
+        ):
+            path = pathlib.Path(folder) / "tile.terrain"
+            path.write_bytes(content)
+            timing.compare(title, "audit", path, sys.argv[1:])
 
 
 if __name__ == "__main__":

@@ -4,6 +4,7 @@
 usage: bench/database.py [PEER ARGUMENT..]
 
 - `add` of a level 1 landscape to an empty database of cap 12 (815 tiles), and of a level 2 one at cap 14 (11,488 tiles)
+- `check` of the database of the level 1 landscape
 - `replace` of one level 0 cell among 400, and `list` over them
 
 Prints seconds and the greatest memory of each; with a PEER, run in turn with it, its seconds and the ratio. The peer's
@@ -72,7 +73,12 @@ def main():
             path.write_bytes(cells.landscape(9, "n46e007", level))
             room = files / f"level{level}"
             room.mkdir()
-            show(f"add of a level {level} cell at cap {cap}", peer, made(room, peer, [["init", str(cap), "0"]]), ["add", path])
+            bases = made(room, peer, [["init", str(cap), "0"]])
+            show(f"add of a level {level} cell at cap {cap}", peer, bases, ["add", path])
+            if level == 1:
+                for program, base in zip(([timing.built()], peer), bases):
+                    timing.timed([*program, base, "add", path])
+                show("check of a level 1 cell at cap 12", peer, bases, ["check"], is_fresh=False)
         squares = [f"n{lat:02}e{lon:03}" for lat in range(40, 60) for lon in range(20)]
         for square in squares:
             (files / f"{square}.dt0").write_bytes(cells.flat(100, square))

@@ -28,21 +28,26 @@ def timed(words):
     return time.perf_counter() - start, out, usage.ru_maxrss / 1024
 
 
-def compare(title, command, path, peers):
-    """Prints the best of the runs of a command on a file, and of the first peer's, run by run in turn."""
+def told(output):
+    """What a program printed, or how much where it is no text of a few lines."""
+    return output.decode().strip().replace("\n", ", ") if len(output) < 1000 else f"{len(output)} bytes"
+
+
+def compare(title, command, path, peer):
+    """Prints the best of the runs of a command on a file, and of a peer's, run by run in turn."""
     program = built()
     size = path.stat().st_size / 1e6
     ours, theirs = [], []
     for _ in range(RUNS):
         seconds, said, memory = timed([program, ".", command, path])
         ours.append(seconds)
-        for peer in peers[:1]:
-            seconds, other, _ = timed([peer, ".", command, path])
+        if peer:
+            seconds, other, _ = timed([*peer, ".", command, path])
             theirs.append(seconds)
-            if other.splitlines()[:1] != said.splitlines()[:1]:
-                sys.exit(f"the peer prints {other!r} where this prints {said!r}")
+            if other != said:
+                sys.exit(f"the peer prints {told(other)!r} where this prints {told(said)!r}")
     line = f"{title}: {min(ours):.3f} s, {size / min(ours):.0f} MB/s, {memory:.1f} MB of memory"
     if theirs:
         line += f", peer {min(theirs):.3f} s, ratio {min(ours) / min(theirs):.2f}"
     print(line)
-    print(f"  {said.decode().strip()}")
+    print(f"  {told(said)}")

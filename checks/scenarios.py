@@ -3,7 +3,10 @@
 A scenario is a function of a `Stage`. Where a database is meant, its folder is `db`.
 """
 
+import array
+
 import cells
+import meshes
 
 FLAT = "n00e000"
 
@@ -79,6 +82,10 @@ def realistic_cell(stage):
     stage.run("add", "hills.dt1")
     stage.run("inspect", "12", "4266", "3106")
     stage.run("list")
+    stage.run("check")
+    tiles = sorted(stage.database.rglob("*.terrain"))
+    good = sum(stage.call("audit", str(tile)).stdout.endswith(b"\ngood\n") for tile in tiles)
+    stage.said.append(["tiles that an audit finds good", good, f"of {len(tiles)}"])
 
 
 def script(stage):
@@ -136,6 +143,94 @@ def spoilt_tile(stage):
     stage.write("db/0/0/0.terrain", b"\x1f\x8b\x08\x00")
     stage.run("inspect", "0", "0", "0")
     stage.run("audit", "db/0/0/0.terrain")
+
+
+def audits(stage):
+    west, east, south, north = 0, 32767, 0, 32767
+    corners = [(west, south, 0), (east, south, 0), (east, north, 0), (west, north, 0)]
+    crossed = [(west, south, 0), (east, north, 0), (east, south, 0), (west, north, 0)]
+    middle = [*corners, (16384, 16384, 0)]
+    fan = [(0, 1, 4), (1, 2, 4), (2, 3, 4), (3, 0, 4)]
+    for name, vertices, triangles in (
+        ("whole", corners, [(0, 1, 2), (0, 2, 3)]),
+        ("overlap-and-hole", corners, [(0, 1, 2), (0, 1, 2)]),
+        ("clockwise", crossed, [(0, 1, 2), (0, 1, 3)]),
+        ("hole", corners, [(0, 1, 2)]),
+        ("none", corners, []),
+        ("fan", [*corners[:2], middle[4], *corners[2:]], [(0, 1, 2), (1, 3, 2), (3, 4, 2), (4, 0, 2)]),
+        ("step", [*corners, *[(u, v, 5) for u, v, _ in corners]], [(0, 1, 2), (4, 6, 7)]),
+        ("line", [(west, south, 0), (east, south, 0), (east, 16384, 0), (west, 16384, 0),
+                  (west, 16384, 3), (east, 16384, 3), (east, north, 3), (west, north, 3)],
+         [(0, 1, 2), (0, 2, 3), (4, 5, 6), (4, 6, 7)]),
+        ("large", [(0, 0, 0)] * 65537, []),
+    ):
+        stage.write(name, meshes.tile(*meshes.in_first_use(vertices, triangles)))
+        stage.run("audit", name)
+    stage.write("compressed", b"\x1f\x8b\x08\x00")
+    stage.run("audit", "compressed")
+    stage.write("short", bytes(87))
+    stage.run("audit", "short")
+
+
+def audits_of_many(stage):
+    """Three hundred small meshes, good and with faults of each kind."""
+    for number in range(300):
+        stage.write(f"mesh{number}", meshes.tile(*meshes.drawn(number)))
+        stage.run("audit", f"mesh{number}")
+
+
+def checked(stage):
+    stage.run("check")
+    stage.run("init", "9", "0")
+    stage.run("check")
+    path = stage.database / "0/0/0.terrain"
+    kept = path.read_bytes()
+    stage.write("db/0/0/0.terrain", kept[:-1] + bytes([kept[-1] ^ 1]))
+    stage.run("check")
+    stage.write("db/0/0/0.terrain", kept)
+    stage.write("db/9/3/4.txt", b"extra")
+    stage.run("check")
+    stage.write("db/cells/n00e000.dt", b"extra")
+    stage.remove("db/0/1/0.terrain")
+    stage.run("check")
+    stage.run("rebuild")
+    stage.write("flat.dt0", cells.flat(0, FLAT))
+    stage.run("add", "flat.dt0")
+    stage.run("check")
+    stage.write("db/layer.json", b"{}")
+    stage.run("check")
+
+
+def converted(stage):
+    stage.write("N46E007.hgt", bytes(2 * 1201 * 1201))
+    stage.ask("convert", "N46E007.hgt")
+    stage.write("below/n60e007.HGT", bytes(2 * 1201 * 1201))
+    stage.ask("convert", "below/n60e007.HGT")
+    samples = array.array("h", [-32768 if k % 1009 == 0 else k % 2803 - 400 for k in range(1201 * 1201)])
+    samples.byteswap()
+    stage.write("S90W180.hgt", samples.tobytes())
+    stage.ask("convert", "S90W180.hgt")
+    stage.write("s00e180.hgt", samples.tobytes())
+    stage.ask("convert", "s00e180.hgt")
+    samples.byteswap()
+    samples[1201 * 5 + 7] = 16001
+    samples.byteswap()
+    stage.write("N00W000.hgt", samples.tobytes())
+    stage.run("convert", "N00W000.hgt")
+    stage.write("N80E007.hgt", bytes(100))
+    stage.run("convert", "N80E007.hgt")
+    stage.run("convert", "N46E008.hgt")
+    for name in ("x.hgt", "N90E007.hgt", "S91E007.hgt", "N46E181.hgt", "N46E07.hgt", "N46E007.hgt/", "N46E007.dt1"):
+        stage.run("convert", name)
+
+
+def heightmaps(stage):
+    stage.run("init", "9", "0")
+    stage.write("seven.dt0", cells.flat(7, FLAT))
+    stage.run("add", "seven.dt0")
+    for tile in (("0", "1", "0"), ("0", "0", "0"), ("9", "512", "256"), ("8", "256", "128"), ("9", "0", "0")):
+        stage.ask("heightmap", *tile)
+    stage.run("heightmap", "9", "0", "0")
 
 
 def dropped_halfway(stage):
@@ -285,7 +380,8 @@ def forty_commands(stage):
 
 SCENARIOS = (
     empty_set, one_flat_cell, there_and_back, touch_in_one_corner, antimeridian, poles_and_wrap, cells_that_disagree,
-    realistic_cell, script, no_good_database, lost_tiles, spoilt_tile, dropped_halfway, put_halfway, rebuilt_halfway,
+    realistic_cell, script, no_good_database, lost_tiles, spoilt_tile, audits, audits_of_many, checked, converted, heightmaps,
+    dropped_halfway, put_halfway, rebuilt_halfway,
     refused_edits, full_database, trials, void_cell, far_cell, two_levels,
     *(edits_of(number) for number in range(12)), forty_commands,
 )

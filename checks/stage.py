@@ -37,12 +37,23 @@ class Stage:
     def remove(self, name):
         (self.folder / name).unlink()
 
-    def run(self, *words):
-        """One command: its words, its status and what it printed are kept."""
+    def call(self, *words):
+        """One command, of which nothing is kept."""
         if words[0] not in self.commands:
             raise NotBuilt(words[0])
-        done = subprocess.run([*self.program, "db", *words], cwd=self.folder, stdout=subprocess.PIPE, timeout=110, check=False)
+        return subprocess.run([*self.program, "db", *words], cwd=self.folder, stdout=subprocess.PIPE, timeout=110, check=False)
+
+    def run(self, *words):
+        """One command: its words, its status and what it printed are kept."""
+        done = self.call(*words)
         self.said.append([" ".join(words), done.returncode, done.stdout.decode("utf-8", "replace")])
+        return done
+
+    def ask(self, *words):
+        """One command, of whose bytes only the status, the length and the SHA-256 are kept."""
+        done = self.call(*words)
+        digest = hashlib.sha256(done.stdout).hexdigest()
+        self.said.append([" ".join(words), done.returncode, f"{len(done.stdout)} bytes {digest}"])
         return done
 
     def files(self):
