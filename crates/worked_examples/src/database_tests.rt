@@ -389,10 +389,10 @@ fn a_database_is_made_asked_and_changed(rt: HostRuntime) -> Result<(), Stopped> 
 #[test]
 fn trials(rt: HostRuntime) -> Result<(), Stopped> {
     let none = "trial 0 1 accepted 0 refused 0 cells 0 tiles 2 bytes 924 scratch 924\n";
-    let three = "trial 3 7 accepted 2 refused 1 cells 2 tiles 42 bytes 750777 scratch 750777\n";
+    let two = "trial 2 7 accepted 1 refused 1 cells 1 tiles 22 bytes 384396 scratch 384396\n";
     let rows = [
         ("trial 0 1", Status::Done, none),
-        ("trial 3 7", Status::Done, three),
+        ("trial 2 7", Status::Done, two),
     ];
     let nothing = sum_behind(&rt, rt.alloc(), &[], &[])?;
     assert_eq!(rt; sum_behind(&rt, rt.alloc(), &[], &rows)?, nothing);

@@ -12,6 +12,8 @@ mod files;
 #[cfg(test)]
 mod playing;
 #[cfg(test)]
+mod realistic_tests;
+#[cfg(test)]
 mod samples;
 #[cfg(test)]
 mod state_tests;
