@@ -1,0 +1,16 @@
+pub mod Ratios
+pub mod Way
+pub mod Breaks
+pub mod Straight
+pub mod Crossing
+pub mod Found
+pub mod Rank
+pub mod Holder
+pub mod Profile
+pub mod Made
+pub mod Added
+pub mod Metres
+pub mod Field
+pub mod Answer
+pub mod Ends
+pub mod Listed

@@ -1,0 +1,27 @@
+//! Heights and profiles of a stored tile of any maker: exact fractions of its surface in metres.
+#![tactic(auto)]
+
+mod collect;
+mod crossing;
+mod ends;
+mod field;
+mod height;
+mod holder;
+pub mod laws;
+mod made;
+mod metres;
+mod profile;
+mod rank;
+mod ratio;
+mod refusal;
+mod spot;
+
+pub use field::MeshField;
+pub use height::height_at;
+pub use profile::breaks;
+pub use ratio::Ratio;
+pub use refusal::QueryRefusal;
+pub use spot::{Break, Spot};
+
+#[cfg(test)]
+mod tests;
