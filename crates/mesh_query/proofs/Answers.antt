@@ -1,6 +1,6 @@
 -- Bytes have one cause of refusal at most.
-use Rattle.std.proofs.Common.{◌≡◌, ◌⊎◌, inl, inr, ℕ, ◌<◌, refl, sym, subst, ap, ◌∙◌, arith, List, length}
-use Rattle.std.specs.Prelude.{All, slice_index_or}
+use Rattle.std.proofs.Common.{◌≡◌, ◌⊎◌, inl, inr, ℕ, ◌<◌, refl, sym, subst, ap, arith, List}
+use Rattle.std.specs.Prelude.{All}
 use Rattle.mesh_codec.specs.declared.codes.Codes.{Codes}
 use Rattle.mesh_codec.specs.Tile.{header_in, vertex_list, mesh_in}
 use Rattle.mesh_check.specs.declared.verdict.Finding.{Finding}

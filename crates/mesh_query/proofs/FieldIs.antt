@@ -1,5 +1,5 @@
 -- The corners and the triangles of an audited tile are a mesh in metres that covers its tile.
-use Rattle.std.proofs.Common.{◌≡◌, ℕ, zero, suc, ◌+◌, ◌^◌, ◌<◌, ◌≤◌, refl, sym, subst, arith, ap, ◌∙◌, List, [], ◌∷◌, length, map}
+use Rattle.std.proofs.Common.{◌≡◌, ℕ, zero, suc, ◌≤◌, refl, sym, subst, arith, ap, ◌∙◌, List, [], ◌∷◌, length, map}
 use Rattle.std.specs.Prelude.{ℤ, pos, ◌≤ℤ◌, All}
 use Rattle.std.specs.List.{AllZip, AllByRecursion}
 use Rattle.std.proofs.lemmas.Int.{ints}
@@ -8,9 +8,9 @@ use Rattle.float_bits.proofs.Formats.{one_number32}
 use Rattle.mesh_codec.specs.declared.codes.Codes.{Codes}
 use Rattle.mesh_codec.specs.declared.header.Header.{Header}
 use Rattle.mesh_codec.specs.Mesh.{Mesh, IsVertex, IsTriangle, IsMesh}
-use Rattle.mesh_codec.specs.Tile.{header_in, vertex_list, triangle_list, mesh_in}
+use Rattle.mesh_codec.specs.Tile.{header_in, mesh_in}
 use Rattle.mesh_check.specs.declared.verdict.Verdict.TheVariants.{Good}
-use Rattle.mesh_check.specs.CodeMesh.{IsVerdict, triangles_of as code_triangles}
+use Rattle.mesh_check.specs.CodeMesh.{IsVerdict}
 use Rattle.mesh_plane.specs.declared.corner.Corner.{Corner}
 use Rattle.mesh_plane.specs.Plane.{IsOnTile}
 use Rattle.mesh_plane.specs.Cover.{Covers}

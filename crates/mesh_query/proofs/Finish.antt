@@ -1,5 +1,5 @@
 -- From the listed crossings to the profile.
-use Rattle.std.proofs.Common.{◌≡◌, ◌<◌, List, [], ◌∷◌, subst, sym}
+use Rattle.std.proofs.Common.{◌<◌, List, [], ◌∷◌}
 use Rattle.std.specs.Prelude.{All, AllPairs}
 use Rattle.std.specs.List.{AllByRecursion, dedup}
 use Rattle.std.specs.List.Sorted.{IsPermutation}
@@ -12,7 +12,7 @@ use Rattle.mesh_query.specs.declared.spot.Break.{Break}
 use Rattle.mesh_query.specs.Rank.{IsRanked, IsOnWay}
 use Rattle.mesh_query.specs.Made.{AreMade}
 use Rattle.mesh_query.specs.Profile.{IsProfile}
-use Rattle.mesh_query.specs.Listed.{IsFoundAt, At, AreListed}
+use Rattle.mesh_query.specs.Listed.{IsFoundAt, AreListed}
 use Rattle.mesh_query.proofs.Adding.{all_weaker}
 use Rattle.mesh_query.proofs.Listings.{Rises, listed_profile}
 use Rattle.mesh_query.proofs.Ranking.{same, thinned_all, thinned_at, ordered_at}

@@ -1,25 +1,25 @@
 -- The crossings with all sides and the two ends are the breaks.
-use Rattle.std.proofs.Common.{◌≡◌, ◌≢◌, ℕ, ◌^◌, ◌<◌, refl, sym, subst, arith, ap, ◌∙◌, List, [], ◌∷◌, ◌++◌, append_assoc, length, inl, inr, get_or}
-use Rattle.std.specs.Prelude.{ℤ, pos, ◌+ℤ◌, ◌*ℤ◌, ◌<ℤ◌, ◌⊎◌, Any, All, slice_index_or, unsigned_abs, ◌≤◌}
+use Rattle.std.proofs.Common.{◌≡◌, ◌≢◌, ℕ, ◌^◌, refl, sym, subst, arith, ap, ◌∙◌, List, [], ◌∷◌, ◌++◌, inl, inr, get_or}
+use Rattle.std.specs.Prelude.{ℤ, pos, ◌*ℤ◌, ◌<ℤ◌, ◌⊎◌, Any, All, unsigned_abs, ◌≤◌}
 use Rattle.std.specs.List.{AllByRecursion}
 use Rattle.std.proofs.lemmas.Int.{ints}
 use Rattle.std.proofs.lemmas.List.{get_or_default}
-use Rattle.polynomial.proofs.Expressions.{var, num, add, sub, mul}
+use Rattle.polynomial.proofs.Expressions.{var, num, mul}
 use Rattle.polynomial.proofs.NormalForm.{by_ring}
 use Rattle.mesh_plane.specs.declared.corner.Corner.{Corner}
 use Rattle.mesh_plane.specs.declared.corner.Tri.{Tri}
 use Rattle.mesh_plane.specs.Plane.{Point, IsCounterClockwise, doubled_area}
-use Rattle.mesh_plane.specs.Surface.{lift_of, Surface}
+use Rattle.mesh_plane.specs.Surface.{lift_of}
 use Rattle.mesh_plane.specs.Cover.{Covers}
 use Rattle.mesh_plane.proofs.ListWords.{all_from, all_to, any_here, any_there, any_none, any_cases}
 use Rattle.mesh_query.specs.declared.crossing.Crossing.{Crossing}
 use Rattle.mesh_query.specs.declared.crossing.Place.{Place}
 use Rattle.mesh_query.specs.declared.rank.Ranked.{Ranked}
 use Rattle.mesh_query.specs.declared.ratio.Ratio.{Ratio}
-use Rattle.mesh_query.specs.Ratios.{ratio, IsFraction, IsSame}
+use Rattle.mesh_query.specs.Ratios.{ratio, IsSame}
 use Rattle.mesh_query.specs.Way.{SurfaceAt}
-use Rattle.mesh_query.specs.Breaks.{IsBreak, AnySide}
-use Rattle.mesh_query.specs.Crossing.{CrossesOut, CrossesAt, crossing, side_height, HasSide, Found, First, Last, Crossed}
+use Rattle.mesh_query.specs.Breaks.{AnySide}
+use Rattle.mesh_query.specs.Crossing.{CrossesOut, CrossesAt, crossing, HasSide, Found, First, Last, Crossed}
 use Rattle.mesh_query.specs.Found.{IsCrossing, at_place}
 use Rattle.mesh_query.specs.Holder.{IsHolder}
 use Rattle.mesh_query.specs.Rank.{IsRanked, IsOnWay}
@@ -30,7 +30,7 @@ use Rattle.mesh_query.proofs.Crossings.{each_side}
 use Rattle.mesh_query.proofs.SideHeights.{side_height_law}
 use Rattle.mesh_query.proofs.BreakCauses.{break_law}
 use Rattle.mesh_query.proofs.EndSurfaces.{start_surface, end_surface}
-use Rattle.mesh_query.proofs.Adding.{any_first, any_last, all_more, all_weaker}
+use Rattle.mesh_query.proofs.Adding.{any_first, any_last, all_more}
 
 -- ---- the start of a segment
 weights : (l d : ℤ) → l *ℤ d ≡ l *ℤ (pos 1 *ℤ d)

@@ -15,7 +15,6 @@ use Rattle.mesh_query.specs.declared.ratio.Ratio.{Ratio}
 use Rattle.mesh_query.specs.declared.spot.Break.{Break}
 use Rattle.mesh_query.specs.declared.rank.Ranked.{Ranked}
 use Rattle.mesh_query.specs.Ratios.{ratio, IsFraction, IsSame, IsBelow}
-use Rattle.mesh_query.specs.Way.{SurfaceAt}
 use Rattle.mesh_query.specs.Breaks.{IsBreak}
 use Rattle.mesh_query.specs.Crossing.{CrossesAt, Found, First, Last, Crossed, crossing}
 use Rattle.mesh_query.specs.Rank.{IsRanked, rank_of}

@@ -1,9 +1,9 @@
 -- A mesh in metres that covers its tile.
-use Rattle.std.specs.Prelude.{◌≡◌, ◌≢◌, ◌⊎◌, ℕ, ℤ, pos, ◌<◌, ◌≤◌, ◌^◌, List, length, map, slice_index_or, All, Result, Ok, Err}
+use Rattle.std.specs.Prelude.{ℕ, pos, ◌<◌, ◌^◌, List, length, map, slice_index_or, All}
 use Rattle.std.specs.List.{AllZip}
 use Rattle.terrain_base.specs.declared.indexes.Indexes.{Indexes}
 use Rattle.mesh_codec.specs.Mesh.{IsTriangle}
-use Rattle.mesh_codec.specs.Tile.{header_in, vertex_list, triangle_list, mesh_in}
+use Rattle.mesh_codec.specs.Tile.{header_in, vertex_list}
 use Rattle.mesh_plane.specs.declared.corner.Corner.{Corner}
 use Rattle.mesh_plane.specs.declared.corner.Tri.{Tri}
 use Rattle.mesh_plane.specs.Plane.{IsOnTile}

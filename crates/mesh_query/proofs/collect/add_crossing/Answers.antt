@@ -1,8 +1,5 @@
 -- One crossing more, or none.
-use Rattle.std.proofs.Common.{subst, sym, List}
-use Rattle.mesh_query.specs.declared.rank.Ranked.{Ranked}
 use Rattle.mesh_query.specs.Found.{at_place}
-use Rattle.mesh_query.specs.Added.{side, AreCrossings}
 use Rattle.mesh_query.proofs.Adding.{on_way, crossed, not_crossed}
 use Rattle.mesh_query.proofs.collect.add_crossing.Goals as goal
 

@@ -1,5 +1,5 @@
 -- Three products that fit, and their sum.
-use Rattle.std.proofs.Common.{arith, FitsSigned, w64, w32, ◌≡◌, ◌∙◌, ap, ◌≤◌, ◌^◌}
+use Rattle.std.proofs.Common.{arith, FitsSigned, w64, w32, ◌≡◌, ◌∙◌, ◌≤◌, ◌^◌}
 use Rattle.std.specs.Prelude.{◌+ℤ◌, ◌*ℤ◌, unsigned_abs}
 use Rattle.std.proofs.lemmas.Int.{ints, to_z-of_z}
 use Rattle.mesh_query.proofs.Sizes.{turned, sum_of_three}

@@ -1,5 +1,5 @@
 -- One triangle more.
-use Rattle.std.proofs.Common.{◌≡◌, ◌∙◌, ◌++◌, ◌∷◌, [], ap, sym, add-one, List, map, take}
+use Rattle.std.proofs.Common.{◌∙◌, ap, sym, add-one, map}
 use Rattle.std.proofs.lemmas.List.{take_all}
 use Rattle.mesh_query.specs.Field.{tri_at}
 use Rattle.mesh_query.proofs.Vertices.{one_more_map}

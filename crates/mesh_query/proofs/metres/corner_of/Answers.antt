@@ -1,5 +1,5 @@
 -- A vertex without whole metres: the header has no span, or the only one that it has does not do.
-use Rattle.std.proofs.Common.{◌≡◌, ◌∙◌, sym, subst, Option, Some, None}
+use Rattle.std.proofs.Common.{◌∙◌, sym, subst}
 use Rattle.std.proofs.lemmas.Option.{none-some}
 use Rattle.mesh_query.specs.declared.metres.Span.{Span}
 use Rattle.mesh_query.specs.Metres.{IsMetres}

@@ -1,14 +1,13 @@
 -- One vertex more, or the first without whole metres.
-use Rattle.std.proofs.Common.{◌≡◌, ◌∙◌, ◌<◌, ◌++◌, ◌∷◌, [], ap, sym, subst, arith, length, List}
+use Rattle.std.proofs.Common.{◌∙◌, ◌++◌, ap, sym, subst, arith, length, List}
 use Rattle.std.specs.List.{AllZip}
 use Rattle.std.proofs.lemmas.List.Elements.{All-rest}
 use Rattle.std.proofs.lemmas.List.{append-nil, length-append}
 use Rattle.mesh_codec.specs.declared.codes.Codes.{Codes}
 use Rattle.mesh_codec.specs.declared.header.Header.{Header}
 use Rattle.mesh_codec.specs.Mesh.{IsVertex}
-use Rattle.mesh_codec.specs.Tile.{header_in, vertex_list}
+use Rattle.mesh_codec.specs.Tile.{header_in}
 use Rattle.mesh_codec.proofs.Lists.{next_whole}
-use Rattle.mesh_plane.specs.declared.corner.Corner.{Corner}
 use Rattle.mesh_query.specs.Metres.{IsCorner, IsWhole}
 use Rattle.mesh_query.proofs.Vertices.{zip_more, zip_long, first_not_whole}
 use Rattle.mesh_query.proofs.metres.corners_of.Goals as goal

@@ -1,14 +1,5 @@
 -- The listed crossings in order, one at each place, are the breaks.
-use Rattle.std.proofs.Common.{◌≡◌, sym, subst, ap, List}
-use Rattle.std.specs.Prelude.{All}
-use Rattle.mesh_plane.specs.Plane.{Point}
-use Rattle.mesh_plane.specs.declared.corner.Tri.{Tri}
-use Rattle.mesh_query.specs.declared.rank.Ranked.{Ranked}
-use Rattle.mesh_query.specs.Field.{triangles_of}
 use Rattle.mesh_query.specs.Found.{at_place}
-use Rattle.mesh_query.specs.Profile.{IsProfile, Neighbours}
-use Rattle.mesh_query.specs.Straight.{IsStraight}
-use Rattle.mesh_query.specs.Way.{place}
 use Rattle.mesh_query.proofs.Straights.{straight}
 use Rattle.mesh_query.proofs.Profiles.{profile_law}
 use Rattle.mesh_query.proofs.Finish.{kept_on_way, kept_profile}

@@ -1,5 +1,5 @@
 -- All crossings and the two ends.
-use Rattle.std.proofs.Common.{◌≡◌, arith, FitsSigned, w64}
+use Rattle.std.proofs.Common.{arith, FitsSigned, w64}
 use Rattle.std.proofs.lemmas.Int.{ints, to_z-of_z}
 use Rattle.mesh_query.proofs.Listing.{listed_is}
 use Rattle.mesh_query.proofs.profile.listed.Goals as goal

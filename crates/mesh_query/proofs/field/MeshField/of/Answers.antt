@@ -1,17 +1,14 @@
 -- The corners and the audited mesh are a mesh in metres.
-use Rattle.std.proofs.Common.{◌≡◌, ◌∙◌, sym, subst, ap, rules, List, map}
-use Rattle.mesh_codec.specs.declared.codes.Codes.{Codes}
+use Rattle.std.proofs.Common.{◌≡◌, ◌∙◌, subst, rules}
 use Rattle.mesh_codec.specs.Mesh.{Mesh, IsMesh}
-use Rattle.mesh_codec.specs.Tile.{header_in, vertex_list, mesh_in}
+use Rattle.mesh_codec.specs.Tile.{header_in, vertex_list}
 use Rattle.mesh_check.specs.declared.verdict.Verdict.{Verdict}
-use Rattle.mesh_check.specs.declared.verdict.Verdict.TheVariants.{Good, Found}
+use Rattle.mesh_check.specs.declared.verdict.Verdict.TheVariants.{Found}
 use Rattle.mesh_check.specs.CodeMesh.{IsVerdict}
-use Rattle.mesh_plane.specs.declared.corner.Corner.{Corner}
 use Rattle.mesh_plane.proofs.ListWords.{all_from}
 use Rattle.mesh_query.specs.Metres.{IsWhole}
-use Rattle.mesh_query.specs.Field.{tri_at}
 use Rattle.mesh_query.proofs.Vertices.{each_whole}
-use Rattle.mesh_query.proofs.FieldIs.{IsRead, numbers, metre_mesh, field_is}
+use Rattle.mesh_query.proofs.FieldIs.{numbers, metre_mesh, field_is}
 use Rattle.mesh_query.proofs.field.MeshField.of.Goals as goal
 
 pub tris_of-requires : goal.tris_of-requires
