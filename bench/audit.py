@@ -65,12 +65,12 @@ def uneven(side):
 def main():
     with tempfile.TemporaryDirectory() as folder:
         for title, content in (
-            ("the densest tile", tile(67, even(67))),
-            ("3969 vertices, none inside in another's row", tile(63, uneven(63))),
-            ("65536 vertices", tile(256, even(256))),
+            ("the densest tile", lambda: tile(67, even(67))),
+            ("3969 vertices, none inside in another's row", lambda: tile(63, uneven(63))),
+            ("65536 vertices", lambda: tile(256, even(256))),
         ):
             path = pathlib.Path(folder) / "tile.terrain"
-            path.write_bytes(content)
+            path.write_bytes(content())
             timing.compare(title, "audit", path, sys.argv[1:])
 
 

@@ -19,13 +19,21 @@ def built():
 
 
 def timed(words):
-    """Seconds of one run, its output, and its greatest memory in megabytes."""
+    """Seconds of one run, its output, and its greatest memory in megabytes.
+
+    A process of its own starts the program, since the memory of what starts it counts as the program's.
+    """
+    process = subprocess.run([sys.executable, __file__, *map(str, words)], stdout=subprocess.PIPE, stderr=subprocess.PIPE, check=True)
+    seconds, memory = process.stderr.decode().splitlines()[-1].split()
+    return float(seconds), process.stdout, float(memory)
+
+
+def time_one(words):
+    """Runs a program, and tells the seconds and the greatest memory in megabytes on standard error."""
     start = time.perf_counter()
-    process = subprocess.Popen([str(word) for word in words], stdout=subprocess.PIPE)
-    out = process.stdout.read()
-    _, status, usage = os.wait4(process.pid, 0)
-    process.returncode = os.waitstatus_to_exitcode(status)
-    return time.perf_counter() - start, out, usage.ru_maxrss / 1024
+    process = subprocess.Popen(words)
+    _, _, usage = os.wait4(process.pid, 0)
+    print(time.perf_counter() - start, usage.ru_maxrss / 1024, file=sys.stderr)
 
 
 def told(output):
@@ -51,3 +59,7 @@ def compare(title, command, path, peer):
         line += f", peer {min(theirs):.3f} s, ratio {min(ours) / min(theirs):.2f}"
     print(line)
     print(f"  {told(said)}")
+
+
+if __name__ == "__main__":
+    time_one(sys.argv[1:])
