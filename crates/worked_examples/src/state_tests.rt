@@ -9,7 +9,8 @@ use terrain_top::Status;
 #[test]
 fn stores_that_are_no_good_database(rt: HostRuntime) -> Result<(), Stopped> {
     let alloc = rt.alloc();
-    let flat = FLAT.bytes(alloc)?;
+    let mut short = FLAT.bytes(alloc)?;
+    short.truncate(100);
     let south = polar(b"0000000E0900000S", 0).bytes(alloc)?;
     let other = level_one(alloc, Some(0))?;
     let manifest = "manifest.txt";
@@ -69,7 +70,7 @@ fn stores_that_are_no_good_database(rt: HostRuntime) -> Result<(), Stopped> {
             ),
         ),
         (cell, Some(&other), ("list", Status::Refused, changed)),
-        (cell, Some(&flat[..100]), ("check", Status::Refused, bad)),
+        (cell, Some(&short), ("check", Status::Refused, bad)),
         (
             manifest,
             Some(put),
