@@ -4,7 +4,7 @@
 usage: bench/audit.py [PEER WORD..]
 
 - the densest tile of this program: all 4489 points of a grid of 67 by 67, with 8712 triangles
-- an irregular mesh of some 4000 vertices: a grid of 63 by 63 points, of which none inside shares its u or v with another
+- an irregular mesh of 4096 vertices: a grid of 64 by 64 points, of which none inside shares its u or v with another
 - 65536 vertices, a grid of 256 by 256 points, which are too many to be looked at
 
 Prints the seconds and megabytes a second of `./terrain . audit FILE`, and the greatest memory of a run. Given a PEER's
@@ -66,7 +66,7 @@ def main():
     with tempfile.TemporaryDirectory() as folder:
         for title, content in (
             ("the densest tile", lambda: tile(67, even(67))),
-            ("3969 vertices, none inside in another's row", lambda: tile(63, uneven(63))),
+            ("4096 vertices, none inside in another's row", lambda: tile(64, uneven(64))),
             ("65536 vertices", lambda: tile(256, even(256))),
         ):
             path = pathlib.Path(folder) / "tile.terrain"
