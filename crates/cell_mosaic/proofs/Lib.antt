@@ -7,3 +7,4 @@ pub mod Sums
 pub mod Values
 pub mod WholeMaps
 pub mod Ranges
+pub mod ValueLaws

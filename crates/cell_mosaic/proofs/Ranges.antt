@@ -48,7 +48,7 @@ value_is_post posts unit are p w = elim (list_any has_no_height (counted posts))
   | false ↦ rounded_is (weighted_sum (counted posts)) unit p (subst (IsWithinWeight unit) (sym (sum_counted posts)) w)
 ]
 
-some_product : (m n : ℕ) → 0 < m → 0 < n → 0 < m * n
+pub some_product : (m n : ℕ) → 0 < m → 0 < n → 0 < m * n
 some_product m n p q = let one : 1 * 1 ≤ m * n = mul-le-mul p q in omega (arith, one)
 
 pub blend_is_post : (quad : Quad) (east east_unit north north_unit : ℕ) → ArePosts quad → east ≤ east_unit → north ≤ north_unit → 0 < east_unit → 0 < north_unit
@@ -113,7 +113,7 @@ quad_is posts east north d columns rows h e n = record {
 below : (n d : ℕ) → 0 < d → n % d < d
 below n d p = omega (arith, p)
 
-north_within : (q d lat : ℕ) → lat * d ≤ q → q ≤ (lat + 1) * d → q - lat * d ≤ d
+pub north_within : (q d lat : ℕ) → lat * d ≤ q → q ≤ (lat + 1) * d → q - lat * d ≤ d
 north_within q d lat h k = omega (arith, h, k)
 
 pub value_in_cell_is : (posts : ℕ → ℕ → Post) (square : Square) (level : CellLevel) (place : Place) → IsPlace place → Holds (square_rectangle square) (point_of place)

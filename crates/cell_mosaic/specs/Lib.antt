@@ -6,5 +6,6 @@ pub mod Fault
 pub mod Source
 pub mod Summaries
 pub mod Value
+pub mod ValueLaws
 pub mod Whole
 pub mod WholeAgrees
