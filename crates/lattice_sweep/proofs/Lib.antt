@@ -1,6 +1,8 @@
 pub mod Steps
 pub mod Cuts
 pub mod Areas
+pub mod Climbs
+pub mod Lifts
 pub mod Gaps
 pub mod Raising
 pub mod Windows

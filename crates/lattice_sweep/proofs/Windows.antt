@@ -1,19 +1,19 @@
 -- Places, columns and windows.
-use Rattle.std.proofs.Common.{◌≡◌, ℕ, ◌+◌, ◌≤◌, ◌<◌, arith, inl, inr, subst, sym, ap, ◌∙◌}
-use Rattle.std.specs.Prelude.{ℤ, pos, ◌-ℤ◌, ◌*ℤ◌, unsigned_abs}
+use Rattle.std.proofs.Common.{◌≡◌, ℕ, ◌+◌, ◌≤◌, ◌<◌, max, arith, refl, inl, inr, subst, sym, ap, ◌∙◌}
+use Rattle.std.specs.Prelude.{◌↔◌, ℤ, pos, ◌-ℤ◌, ◌*ℤ◌, unsigned_abs}
 use Rattle.std.proofs.lemmas.Int.{ints, by_lt_z}
 use Rattle.terrain_base.specs.declared.cell_key.CellKey.{CellKey}
 use Rattle.terrain_base.specs.declared.post.Post.{Post}
 use Rattle.terrain_base.specs.declared.post.Post.TheVariants.{Void, Metres}
 use Rattle.cell_mosaic.specs.Cells.{Cells, post_at}
 use Rattle.mesh_plane.specs.declared.corner.Tri.{Tri}
-use Rattle.mesh_plane.specs.Plane.{IsTilePoint}
+use Rattle.mesh_plane.specs.Plane.{IsTilePoint, Holds}
 use Rattle.mesh_plane.specs.Surface.{lift_of, gap_over, gap_under}
 use Rattle.lattice_sweep.specs.declared.axis.Axis.{Axis}
 use Rattle.lattice_sweep.specs.Plane.{IsLift}
 use Rattle.lattice_sweep.specs.Axis.{point_of, Has, IsOnSide}
 use Rattle.lattice_sweep.specs.Sweep.{HeldGap, InColumn, InWindow, IsRaised}
-use Rattle.lattice_sweep.proofs.Raising.{raised_same, raised_both}
+use Rattle.lattice_sweep.proofs.Raising.{raised_same, raised_both, raised_none, raised_is}
 
 pub tile_point : (east north : Axis) (col row : ℕ) (u v : ℤ) → IsOnSide east → IsOnSide north → Has east col → Has north row
     → u ≡ point_of east col → v ≡ point_of north row → IsTilePoint (pos 10125) u v
@@ -37,16 +37,22 @@ module _ (cells : Cells) (key : CellKey) (col : ℕ) (t : Tri) (u : ℤ) (north 
       (λ l. inr (subst (λ w. HeldGap cells key col row t u w n) (sym e) (subst (λ k. HeldGap cells key col k t u (point_of north k) n) l i.here))))
       r s
 
-  -- no row before the first
-  pub no_row : (n : ℕ) → InColumn cells key col t u north north.from n → ⊥
-  no_row n i = omega (arith, i.has.from, i.before)
+  -- those of some rows that are all that the triangle holds
+  module _ (rows : Axis) (held : (i : ℕ) → Has rows i ↔ (Has north i × Holds (pos 10125) u (point_of north i) t)) where
+    -- none before the first of them
+    pub no_row : (n : ℕ) → InColumn cells key col t u north rows.from n → ⊥
+    no_row n i = let has = (held i.row).1 (i.has, i.here.held) in omega (arith, has.from, i.before)
 
-  -- all rows
-  pub all_rows : (end : ℕ) {a b : ℕ} → north.to ≤ end → IsRaised (InColumn cells key col t u north end) a b
-      → IsRaised (InColumn cells key col t u north north.to) a b
-  all_rows end h r =
-      raised_same (λ n i. record { row = i.row; has = i.has; before = i.has.to; here = i.here })
-      (λ n i. record { row = i.row; has = i.has; before = let b = i.before in omega arith; here = i.here }) r
+    -- none at all
+    pub no_rows : rows.to ≤ rows.from → (n : ℕ) → InColumn cells key col t u north north.to n → ⊥
+    no_rows none n i = let has = (held i.row).1 (i.has, i.here.held) in omega (arith, has.from, has.to, none)
+
+    -- all of them
+    pub all_rows : (end : ℕ) {a b : ℕ} → rows.to ≤ end → IsRaised (InColumn cells key col t u north end) a b
+        → IsRaised (InColumn cells key col t u north north.to) a b
+    all_rows end h r =
+        raised_same (λ n i. record { row = i.row; has = i.has; before = i.has.to; here = i.here })
+        (λ n i. let has = (held i.row).1 (i.has, i.here.held) in record { row = i.row; has = i.has; before = omega (arith, has.to, h); here = i.here }) r
 
 module _ (cells : Cells) (key : CellKey) (t : Tri) (east north : Axis) where
   -- one column more
@@ -70,6 +76,10 @@ module _ (cells : Cells) (key : CellKey) (t : Tri) (east north : Axis) where
       raised_same (λ n i. record { col = i.col; row = i.row; has_col = i.has_col; has_row = i.has_row; before = i.has_col.to; here = i.here })
       (λ n i. record { col = i.col; row = i.row; has_col = i.has_col; has_row = i.has_row; before = let b = i.before in omega arith; here = i.here }) r
 
+by_post : {P : Type 0} (post : Post) → (post ≡ Void → P) → ((metres : ℤ) → post ≡ Metres metres → P) → P
+by_post Void f g = f refl
+by_post (Metres metres) f g = g metres refl
+
 module _ (cells : Cells) (key : CellKey) (col row : ℕ) (t : Tri) (u v : ℤ) (given : Post)
     (told : given ≡ post_at cells key col row) where
   -- a void has no gap
@@ -92,3 +102,16 @@ module _ (cells : Cells) (key : CellKey) (col row : ℕ) (t : Tri) (u v : ℤ) (
       let b : g.metres ≡ h.metres = cc in
       let c : pos n ≡ pos m = h.size ∙ ap (λ k. gap_over t (pos 10125) u v k) (sym b) ∙ sym g.size in
       omega (arith, ints, c)
+
+  -- raised by its gap, or by the 0 of a void
+  pub post_raised : (lift under : ℤ) (gap most : ℕ) → IsLift t u v lift → under ≡ gap_under t (pos 10125) → (given ≡ Void → gap ≡ 0)
+      → ((metres : ℤ) → given ≡ Metres metres → gap ≡ unsigned_abs (lift -ℤ metres *ℤ under))
+      → IsRaised (HeldGap cells key col row t u v) most (max most gap)
+  post_raised lift under gap most is area void metres =
+      by_post given
+      (λ e.
+      let same : most ≡ max most gap = let z = void e in omega (arith, z) in
+      subst (λ (k : ℕ). IsRaised (HeldGap cells key col row t u v) most k) same (raised_none (no_gap e)))
+      (λ m e.
+      let here = its_gap m lift under gap e is area (metres m e) in
+      raised_is gap here (λ n h. only_gap m gap n e here h))

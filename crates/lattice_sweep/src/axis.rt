@@ -13,12 +13,13 @@ pub struct Axis {
 }
 
 // How many points from number 0 on lie before this place.
-fn before(first: i64, step: i64, low: i64) -> u64
+pub(crate) fn before(first: i64, step: i64, low: i64) -> u64
     requires first { unsigned_abs first ≤ 2 ^ 50 }
     requires low { unsigned_abs low ≤ 2 ^ 50 }
     requires forwards { pos 1 ≤ℤ step }
-    requires step { step ≤ℤ pos 1099511627776 }
-    ensures { (i : ℕ) → (low ≤ℤ (first +ℤ step *ℤ pos i)) ↔ (result ≤ i) }
+    requires step { step ≤ℤ pos 17592186044416 }
+    ensures steps { (i : ℕ) → (low ≤ℤ (first +ℤ step *ℤ pos i)) ↔ (result ≤ i) }
+    ensures size { result ≤ 2 ^ 52 }
 {
     if low <= first {
         return 0;

@@ -3,6 +3,7 @@
 
 mod axis;
 mod plane;
+mod rows;
 mod triangle;
 mod window;
 

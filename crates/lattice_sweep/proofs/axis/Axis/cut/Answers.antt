@@ -12,6 +12,6 @@ returns-clause-cut c =
     let f1 : FitsSigned w64 a.first = search rules in
     let f2 : FitsSigned w64 a.step = search rules in
     let f3 : FitsSigned w64 (c.args.high +ℤ pos 1) = omega (arith, ints, c.requires.high) in
-    let lo = simp to_z-of_z at c.before-2.ensures in
-    let hi = simp to_z-of_z at c.before-3.ensures in
+    let lo = simp to_z-of_z at c.before-2.ensures.steps in
+    let hi = simp to_z-of_z at c.before-3.ensures.steps in
     simp to_z-of_z (cut_is a c.args.low c.args.high c.before-2.result c.before-3.result c.max-from.result c.min.result c.min-to.result lo hi c.max-from.ensures c.min.ensures c.min-to.ensures (omega arith))
