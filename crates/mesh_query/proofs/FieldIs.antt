@@ -1,8 +1,9 @@
 -- The corners and the triangles of an audited tile are a mesh in metres that covers its tile.
-use Rattle.std.proofs.Common.{◌≡◌, ℕ, zero, suc, ◌≤◌, refl, sym, subst, arith, ap, ◌∙◌, List, [], ◌∷◌, length, map}
+use Rattle.std.proofs.Common.{◌≡◌, ℕ, zero, suc, ◌≤◌, ◌<◌, ◌^◌, refl, sym, subst, arith, ap, ◌∙◌, List, [], ◌∷◌, length, map}
 use Rattle.std.specs.Prelude.{ℤ, pos, ◌≤ℤ◌, All}
 use Rattle.std.specs.List.{AllZip, AllByRecursion}
 use Rattle.std.proofs.lemmas.Int.{ints}
+use Rattle.std.proofs.lemmas.List.{length-map}
 use Rattle.terrain_base.specs.declared.indexes.Indexes.{Indexes}
 use Rattle.float_bits.proofs.Formats.{one_number32}
 use Rattle.mesh_codec.specs.declared.codes.Codes.{Codes}
@@ -104,6 +105,7 @@ module _ (bytes : List ℕ) (mesh : Mesh) (corners : List Corner) (indexes : Lis
           (all_to IsVertex mesh.vertices read.keeps.vertices));
       low = all_from IsLow corners (all_low (header_in bytes) mesh.vertices corners zipped);
       few = omega (arith, read.keeps.few_vertices, long);
+      few_triangles = subst (λ (ts : List Indexes). length ts < 2 ^ 32) (sym read.indexes_are) read.keeps.few_triangles;
       numbers = numbers;
       covers = covers;
     }
@@ -134,3 +136,7 @@ low_each corners (t ∷ ts) a = (
 pub low_tris : (mesh : MetreMesh) → IsMetreMesh mesh → All IsLowTri (triangles_of mesh)
 low_tris mesh h =
     all_from IsLowTri (triangles_of mesh) (low_each mesh.corners mesh.indexes (all_to IsLow mesh.corners h.low))
+
+pub few_tris : (mesh : MetreMesh) → IsMetreMesh mesh → length (triangles_of mesh) < 2 ^ 32
+few_tris mesh h =
+    subst (λ (n : ℕ). n < 2 ^ 32) (sym (length-map mesh.indexes (tri_at mesh.corners))) h.few_triangles

@@ -11,10 +11,10 @@ use Rattle.mesh_query.specs.declared.rank.Ranked.{Ranked}
 use Rattle.mesh_query.specs.declared.spot.Break.{Break}
 use Rattle.mesh_query.specs.Rank.{IsRanked, IsOnWay}
 use Rattle.mesh_query.specs.Made.{AreMade}
-use Rattle.mesh_query.specs.Profile.{IsProfile}
+use Rattle.mesh_query.specs.Profile.{IsSmall, IsProfile}
 use Rattle.mesh_query.specs.Listed.{IsFoundAt, AreListed}
 use Rattle.mesh_query.proofs.Adding.{all_weaker}
-use Rattle.mesh_query.proofs.Listings.{Rises, listed_profile}
+use Rattle.mesh_query.proofs.Listings.{Rises, each_small, listed_profile}
 use Rattle.mesh_query.proofs.Ranking.{same, thinned_all, thinned_at, ordered_at}
 
 module _ (ts : List Tri) (p q : Point) (found ordered : List Ranked) (listed : AreListed ts p q found)
@@ -36,6 +36,9 @@ module _ (ts : List Tri) (p q : Point) (found ordered : List Ranked) (listed : A
     all_to (λ s. r.rank < s.rank) rs (pairs_head (λ x y. x.rank < y.rank) r rs h),
     rises rs (pairs_tail (λ x y. x.rank < y.rank) r rs h),
   )
+
+  pub kept_small : (bs : List Break) → AreMade (dedup same ordered) bs → All IsSmall bs
+  kept_small bs made = all_from IsSmall bs (each_small ts p q (dedup same ordered) bs each_kept made)
 
   pub kept_profile : (bs : List Break) → AllPairs (λ r s. r.rank < s.rank) (dedup same ordered)
       → AreMade (dedup same ordered) bs → IsProfile ts p q bs

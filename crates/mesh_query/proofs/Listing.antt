@@ -169,6 +169,7 @@ module _ (ts : List Tri) (p q : Point) where
         surface = subst (λ (x : Ratio). SurfaceAt ts p q x (ratio r.crossing.height r.crossing.under)) (sym is.at)
             (subst (λ (h : Ratio). SurfaceAt ts p q (crossing p q s.a s.b) h) (sym is.metres)
             (side_height_law ts p q s.a s.b ccw w.2 is.crosses));
+        height_size = omega (arith, is.height_size);
       }
 
   module _ (found : List Ranked) (k : Ratio) where
@@ -222,6 +223,7 @@ module _ (ts : List Tri) (from to : Place) where
         surface = subst (λ (x : Crossing). SurfaceAt ts p q (ratio x.over x.under) (ratio x.height x.under)) (sym e)
             (subst (λ (o : ℤ). SurfaceAt ts p q (ratio o c.under) (ratio c.height c.under)) (sym s.nought)
             (start_surface ts p q c.height c.under s.above_zero s.surface));
+        height_size = subst (λ (x : Crossing). unsigned_abs x.height ≤ 2 ^ 50) (sym e) s.height_size;
       }
 
   end_found : (r : Ranked) → IsRanked r → (c : Crossing) → IsStart ts to c → r.crossing ≡ end_of c → IsFoundAt ts p q r
@@ -231,6 +233,7 @@ module _ (ts : List Tri) (from to : Place) where
         found = Last (ap (λ (x : Crossing). x.over) e ∙ sym (ap (λ (x : Crossing). x.under) e));
         surface = subst (λ (x : Crossing). SurfaceAt ts p q (ratio x.over x.under) (ratio x.height x.under)) (sym e)
             (end_surface ts p q c.height c.under s.above_zero s.surface);
+        height_size = subst (λ (x : Crossing). unsigned_abs x.height ≤ 2 ^ 50) (sym e) s.height_size;
       }
 
   pub listed_is : (crossings : List Ranked) (r s : Ranked) (c d : Crossing) → Covers ts → p ≢ q

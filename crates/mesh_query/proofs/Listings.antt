@@ -19,7 +19,7 @@ use Rattle.mesh_query.specs.Breaks.{IsBreak}
 use Rattle.mesh_query.specs.Crossing.{CrossesAt, Found, First, Last, Crossed, crossing}
 use Rattle.mesh_query.specs.Rank.{IsRanked, rank_of}
 use Rattle.mesh_query.specs.Made.{IsMade, AreMade}
-use Rattle.mesh_query.specs.Profile.{Neighbours, IsBreakOf, IsProfile}
+use Rattle.mesh_query.specs.Profile.{Neighbours, IsBreakOf, IsSmall, IsProfile}
 use Rattle.mesh_query.specs.Listed.{IsFoundAt, At}
 use Rattle.mesh_query.proofs.Crossings.{each_side}
 use Rattle.mesh_query.proofs.SideHeights.{same_law}
@@ -170,6 +170,21 @@ module _ (ts : List Tri) (p q : Point) where
   made_each [] (b ∷ bs) f m = elim m [ ]
   made_each (r ∷ rs) [] f m = elim m [ ]
   made_each (r ∷ rs) (b ∷ bs) f m = (made_break r b f.0 m.0, made_each rs bs f.1 m.1)
+
+  made_small : (r : Ranked) (b : Break) → IsFoundAt ts p q r → IsMade r b → IsSmall b
+  made_small r b f m = record {
+    at = omega (arith, ints, m.at_size, f.ranked.on_way.under_size);
+    metres = omega (arith, m.metres_size, f.height_size);
+    metres_under = omega (arith, ints, m.metres_under_size, f.ranked.on_way.under_size);
+  }
+
+  -- so each break made of them has small numbers
+  pub each_small : (rs : List Ranked) (bs : List Break) → AllByRecursion (IsFoundAt ts p q) rs → AreMade rs bs
+      → AllByRecursion IsSmall bs
+  each_small [] [] f m = tt
+  each_small [] (b ∷ bs) f m = elim m [ ]
+  each_small (r ∷ rs) [] f m = elim m [ ]
+  each_small (r ∷ rs) (b ∷ bs) f m = (made_small r b f.0 m.0, each_small rs bs f.1 m.1)
 
   made_ascending : (rs : List Ranked) (bs : List Break) → AllByRecursion (IsFoundAt ts p q) rs → Rises rs
       → AreMade rs bs → Neighbours (λ b c. IsBelow b.at c.at) bs

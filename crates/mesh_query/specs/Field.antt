@@ -32,6 +32,7 @@ pub record IsMetreMesh (mesh : MetreMesh) : Type 0 where
   pub on_tile : All IsOnTile mesh.corners
   pub low : All IsLow mesh.corners
   pub few : length mesh.corners < 2 ^ 32
+  pub few_triangles : length mesh.indexes < 2 ^ 32
   pub numbers : All (IsTriangle (length mesh.corners)) mesh.indexes
   pub covers : Covers (triangles_of mesh)
 

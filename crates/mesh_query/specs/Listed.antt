@@ -1,5 +1,5 @@
 -- Crossings that make the breaks of a segment.
-use Rattle.std.specs.Prelude.{List, All, Any}
+use Rattle.std.specs.Prelude.{◌≤◌, ◌^◌, unsigned_abs, List, All, Any}
 use Rattle.mesh_plane.specs.declared.corner.Tri.{Tri}
 use Rattle.mesh_plane.specs.Plane.{Point}
 use Rattle.mesh_query.specs.declared.rank.Ranked.{Ranked}
@@ -15,6 +15,7 @@ pub record IsFoundAt (ts : List Tri) (p q : Point) (r : Ranked) : Type 0 where
   pub ranked : IsRanked r
   pub found : Found ts p q (ratio r.crossing.over r.crossing.under)
   pub surface : SurfaceAt ts p q (ratio r.crossing.over r.crossing.under) (ratio r.crossing.height r.crossing.under)
+  pub height_size : unsigned_abs r.crossing.height ≤ 2 ^ 50
 
 -- the crossing lies at the fraction k
 abbrev pub At : Ratio → Ranked → Type 0

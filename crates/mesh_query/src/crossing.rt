@@ -8,16 +8,16 @@ ghost use Rattle.mesh_query.specs.Metres.{IsLow};
 
 use mesh_plane::Corner;
 
-/// A point of the tile.
+/// A point of the tile, each coordinate from 0 to 32767.
 #[derive(Clone, Copy)]
-pub(crate) struct Place {
+pub struct Place {
     pub u: i64,
     pub v: i64,
 }
 
 /// A fraction of the way along a segment, `over/under`, and the height there, `height/under` metres.
 #[derive(Clone, Copy)]
-pub(crate) struct Crossing {
+pub struct Crossing {
     pub over: i64,
     pub under: i64,
     pub height: i64,
@@ -80,8 +80,9 @@ fn fall_of(from: &Place, to: &Place, a: &Corner, b: &Corner) -> i64
     )
 }
 
-/// How far a corner is to the left of the segment.
-fn aside_of(from: &Place, to: &Place, corner: &Corner) -> i64
+/// How far a corner is to the left of the segment: twice the area of the triangle of the two places and the corner, below 0
+/// where the corner is to the right.
+pub fn aside_of(from: &Place, to: &Place, corner: &Corner) -> i64
     requires from { IsTilePoint (pos 1) from.now.u from.now.v }
     requires to { IsTilePoint (pos 1) to.now.u to.now.v }
     requires corner { IsOnTile corner.now }
@@ -106,8 +107,9 @@ pub(crate) fn weighed(weight: i64, height: i32) -> i64
     weight * i64::from(height)
 }
 
-/// Where the segment crosses the side from `a` to `b` from its left to its right.
-pub(crate) fn cross_out(from: &Place, to: &Place, a: &Corner, b: &Corner) -> Option<Crossing>
+/// Where the segment crosses the side from `a` to `b` from its left to its right, and the height of the side there. None where
+/// it does not.
+pub fn cross_out(from: &Place, to: &Place, a: &Corner, b: &Corner) -> Option<Crossing>
     requires from { IsTilePoint (pos 1) from.now.u from.now.v }
     requires to { IsTilePoint (pos 1) to.now.u to.now.v }
     requires a { IsOnTile a.now }

@@ -7,7 +7,7 @@ ghost use Rattle.mesh_query.specs.Ends.{IsStart};
 ghost use Rattle.mesh_query.specs.Metres.{IsLowTri};
 
 use crate::crossing::{Crossing, Place, after, left_of, turn, weighed};
-use crate::holder::holder;
+use crate::held::holder;
 use mesh_plane::Tri;
 
 /// Twice the area of a triangle.
@@ -38,8 +38,10 @@ fn lift(tri: &Tri, place: &Place) -> i64
     a + b + c
 }
 
-/// The start of a segment at the place.
-pub(crate) fn start(tris: &[Tri], place: &Place) -> Crossing
+/// The start of a segment at the place: the fraction 0, and the height of the surface there.
+///
+/// The triangles cover the tile, and their corners are within 65535 metres.
+pub fn start(tris: &[Tri], place: &Place) -> Crossing
     requires tris { All IsTileTri tris.now }
     requires covers { Covers tris.now }
     requires low { All IsLowTri tris.now }

@@ -1,9 +1,10 @@
 //! A stored tile as a mesh in metres.
-ghost use Rattle.std.specs.Prelude.{◌≡◌, ◌<◌, length, map, All, IfOk, IfErr};
+ghost use Rattle.std.specs.Prelude.{◌≡◌, ◌<◌, ◌^◌, length, map, All, IfOk, IfErr};
 ghost use Rattle.mesh_codec.specs.Mesh.{IsTriangle};
+ghost use Rattle.mesh_plane.specs.Plane.{IsOnTile};
 ghost use Rattle.mesh_plane.specs.Cover.{Covers};
-ghost use Rattle.mesh_query.specs.Field.{tri_at, triangles_of};
-ghost use Rattle.mesh_query.specs.Metres.{IsLowTri};
+ghost use Rattle.mesh_query.specs.Field.{corner_at, tri_at, triangles_of};
+ghost use Rattle.mesh_query.specs.Metres.{IsLow, IsLowTri};
 ghost use Rattle.mesh_query.specs.Answer.{IsFieldOf, IsCause};
 
 use crate::metres::corners_of;
@@ -76,11 +77,38 @@ impl MeshField {
         }
     }
 
-    /// The triangles by their corners. They cover the tile once.
-    pub(crate) fn tris(&self) -> &[Tri]
+    /// How many vertices the mesh has.
+    pub fn vertices(&self) -> u32
+        ensures { result ≡ length self.now.corners }
+    {
+        self.corners.len() as u32
+    }
+
+    /// The vertex of a number, which is below `vertices`: its place on the tile, and its height in metres within 65535.
+    pub fn corner(&self, k: u32) -> Corner
+        requires { k < length self.now.corners }
+        ensures corner { result ≡ corner_at self.now.corners k }
+        ensures on_tile { IsOnTile result }
+        ensures low { IsLow result }
+    {
+        self.corners[k as usize]
+    }
+
+    /// The triangles by the numbers of their vertices, counter-clockwise.
+    pub fn triangles(&self) -> &[Indexes]
+        ensures triangles { result.now ≡ self.now.indexes }
+        ensures numbers { All (IsTriangle (length self.now.corners)) result.now }
+        ensures covers { Covers (map (tri_at self.now.corners) result.now) }
+    {
+        &self.indexes
+    }
+
+    /// The triangles by their corners, in the same order. They cover the tile once.
+    pub fn tris(&self) -> &[Tri]
         ensures tris { result.now ≡ triangles_of self.now }
         ensures covers { Covers result.now }
         ensures low { All IsLowTri result.now }
+        ensures few { length result.now < 2 ^ 32 }
     {
         &self.tris
     }

@@ -7,7 +7,7 @@ ghost use Rattle.mesh_query.specs.Field.{triangles_of};
 ghost use Rattle.mesh_query.specs.Ratios.{ratio, IsLowest, IsSame};
 
 use crate::field::MeshField;
-use crate::holder::holder;
+use crate::held::holder;
 use crate::ratio::{Ratio, reduced};
 use mesh_plane::{Tri, plane_height};
 

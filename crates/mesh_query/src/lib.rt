@@ -6,7 +6,7 @@ mod crossing;
 mod ends;
 mod field;
 mod height;
-mod holder;
+mod held;
 pub mod laws;
 mod made;
 mod metres;
@@ -16,10 +16,13 @@ mod ratio;
 mod refusal;
 mod spot;
 
+pub use crossing::{Crossing, Place, aside_of, cross_out};
+pub use ends::start;
 pub use field::MeshField;
 pub use height::height_at;
-pub use profile::breaks;
-pub use ratio::Ratio;
+pub use held::holder;
+pub use profile::{breaks, place_of};
+pub use ratio::{Ratio, reduced};
 pub use refusal::QueryRefusal;
 pub use spot::{Break, Spot};
 

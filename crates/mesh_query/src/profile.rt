@@ -7,7 +7,7 @@ ghost use Rattle.mesh_query.specs.Field.{triangles_of};
 ghost use Rattle.mesh_query.specs.Found.{at_place};
 ghost use Rattle.mesh_query.specs.Listed.{AreListed};
 ghost use Rattle.mesh_query.specs.Metres.{IsLowTri};
-ghost use Rattle.mesh_query.specs.Profile.{IsProfile, Neighbours};
+ghost use Rattle.mesh_query.specs.Profile.{IsProfile, IsSmall, Neighbours};
 ghost use Rattle.mesh_query.specs.Straight.{IsStraight};
 ghost use Rattle.mesh_query.specs.Way.{place, IsSpot};
 
@@ -23,7 +23,7 @@ use std::alloc::Global;
 use terrain_base::NoMemory;
 
 /// Where a spot lies.
-fn place_of(spot: Spot) -> Place
+pub fn place_of(spot: Spot) -> Place
     requires { IsSpot spot }
     ensures place { at_place result ≡ place spot }
     ensures on_tile { IsTilePoint (pos 1) result.u result.v }
@@ -55,7 +55,7 @@ fn listed(alloc: Global, tris: &[Tri], from: &Place, to: &Place) -> Result<Vec<R
 }
 
 /// The breaks of a segment between two different spots of the tile, ascending, each once, with the surface at each.
-/// Between two neighbouring breaks the surface is straight.
+/// Between two neighbouring breaks the surface is straight. Their numbers are below 2^31, those of heights below 2^51.
 pub fn breaks(
     alloc: Global,
     field: &MeshField,
@@ -68,6 +68,7 @@ pub fn breaks(
     ensures profile { IfOk result (λ list. IsProfile (triangles_of field.now) (place from) (place to) list.items) }
     ensures straight { IfOk result
         (λ list. Neighbours (IsStraight (triangles_of field.now) (place from) (place to)) list.items) }
+    ensures small { IfOk result (λ list. All IsSmall list.items) }
 {
     let mut found = listed(alloc, field.tris(), &place_of(from), &place_of(to))?;
     order(&mut found);
