@@ -1,0 +1,3 @@
+pub mod Rescaled
+pub mod InMetres
+pub mod Tiles
