@@ -7,7 +7,7 @@ use Rattle.cell_mosaic.specs.declared.fault.SourceFault.{SourceFault}
 use Rattle.cell_mosaic.specs.declared.fault.SourceFault.TheVariants as source
 use Rattle.database.specs.Opening as opens
 use Rattle.database.specs.declared.answer.EngineAnswer.{EngineAnswer}
-use Rattle.database.specs.declared.answer.EngineAnswer.TheVariants.{CellPresent, CellAbsent, DatabaseFull, NotEmpty, NotADatabase, Trouble, NoTile, TileLost, OldVersion, StoreFault, NoMemory}
+use Rattle.database.specs.declared.answer.EngineAnswer.TheVariants.{CellPresent, CellAbsent, DatabaseFull, NotEmpty, NotADatabase, Trouble, NoTile, TileLost, OldVersion, NotOld, StoreFault, NoMemory}
 
 -- the fault of a store, and of a source of posts, as an answer
 abbrev pub of_device : DeviceFault → EngineAnswer
@@ -35,6 +35,7 @@ IsStop (Trouble trouble) = ⊥
 IsStop (NoTile tile) = ⊥
 IsStop (TileLost name) = ⊥
 IsStop (OldVersion version) = ⊥
+IsStop (NotOld version) = ⊥
 IsStop StoreFault = Unit {0}
 IsStop NoMemory = Unit {0}
 
@@ -53,5 +54,6 @@ opening_of (Trouble trouble) = Some (opens.InTrouble trouble)
 opening_of (NoTile tile) = None
 opening_of (TileLost name) = None
 opening_of (OldVersion version) = Some (opens.OldVersion version)
+opening_of (NotOld version) = None
 opening_of StoreFault = None
 opening_of NoMemory = None

@@ -29,6 +29,8 @@ pub enum EngineAnswer {
     TileLost { name: Name },
     /// K12. The manifest is of this version, which is before this program's.
     OldVersion { version: u32 },
+    /// K13. The manifest is of this version, which is this program's, so there is nothing to bring to it.
+    NotOld { version: u32 },
     /// The store failed: its count of faults rose in this call, or stands at its end.
     StoreFault,
     /// Memory was refused.

@@ -185,5 +185,6 @@ no_rows_trouble rows held (answer.Trouble t) none is = none_known rows is.subjec
 no_rows_trouble rows held (answer.NoTile tile) none is = is
 no_rows_trouble rows held (answer.TileLost name) none is = is
 no_rows_trouble rows held (answer.OldVersion version) none is = is
+no_rows_trouble rows held (answer.NotOld version) none is = is
 no_rows_trouble rows held answer.StoreFault none is = tt
 no_rows_trouble rows held answer.NoMemory none is = tt

@@ -173,6 +173,7 @@ refusal_told (answer.Trouble trouble) files held log log' work work' t idle = (t
 refusal_told (answer.NoTile tile) files held log log' work work' t idle = t
 refusal_told (answer.TileLost name) files held log log' work work' t idle = t
 refusal_told (answer.OldVersion version) files held log log' work work' t idle = (t, idle)
+refusal_told (answer.NotOld version) files held log log' work work' t idle = t
 refusal_told answer.StoreFault files held log log' work work' t idle = tt
 refusal_told answer.NoMemory files held log log' work work' t idle = tt
 
@@ -186,6 +187,7 @@ refusal_stop (answer.Trouble trouble) files held log log' work work' t = absurd 
 refusal_stop (answer.NoTile tile) files held log log' work work' t = absurd t
 refusal_stop (answer.TileLost name) files held log log' work work' t = absurd t
 refusal_stop (answer.OldVersion version) files held log log' work work' t = absurd t
+refusal_stop (answer.NotOld version) files held log log' work work' t = absurd t
 refusal_stop answer.StoreFault files held log log' work work' t = tt
 refusal_stop answer.NoMemory files held log log' work work' t = tt
 

@@ -130,5 +130,6 @@ full_stop (answer.Trouble trouble) files held log log' t = t
 full_stop (answer.NoTile tile) files held log log' t = t
 full_stop (answer.TileLost name) files held log log' t = t
 full_stop (answer.OldVersion version) files held log log' t = t
+full_stop (answer.NotOld version) files held log log' t = t
 full_stop answer.StoreFault files held log log' t = tt
 full_stop answer.NoMemory files held log log' t = tt

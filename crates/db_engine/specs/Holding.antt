@@ -8,7 +8,7 @@ use Rattle.terrain_base.specs.Step.{Files}
 use Rattle.cell_mosaic.specs.Summaries.{summaries_of}
 use Rattle.database.specs.State.{State, AreFiles, ReadsAs, StandsMarked, StandsFor}
 use Rattle.database.specs.declared.answer.EngineAnswer.{EngineAnswer}
-use Rattle.database.specs.declared.answer.EngineAnswer.TheVariants.{CellPresent, CellAbsent, DatabaseFull, NotEmpty, NotADatabase, Trouble, NoTile, TileLost, OldVersion, StoreFault, NoMemory}
+use Rattle.database.specs.declared.answer.EngineAnswer.TheVariants.{CellPresent, CellAbsent, DatabaseFull, NotEmpty, NotADatabase, Trouble, NoTile, TileLost, OldVersion, NotOld, StoreFault, NoMemory}
 use Rattle.db_engine.specs.Opened.{Contents}
 
 -- the files that are held read as the state, closed, and its params and its cells in short are those opened
@@ -41,6 +41,7 @@ IsFull (Trouble trouble) files held log log' = ⊥
 IsFull (NoTile tile) files held log log' = ⊥
 IsFull (TileLost name) files held log log' = ⊥
 IsFull (OldVersion version) files held log log' = ⊥
+IsFull (NotOld version) files held log log' = ⊥
 IsFull StoreFault files held log log' = Unit {0}
 IsFull NoMemory files held log log' = Unit {0}
 
@@ -55,6 +56,7 @@ IsStopOrFull (Trouble trouble) = ⊥
 IsStopOrFull (NoTile tile) = ⊥
 IsStopOrFull (TileLost name) = ⊥
 IsStopOrFull (OldVersion version) = ⊥
+IsStopOrFull (NotOld version) = ⊥
 IsStopOrFull StoreFault = Unit {0}
 IsStopOrFull NoMemory = Unit {0}
 

@@ -24,6 +24,7 @@ IsUnheld held name (answer.Trouble trouble) = ⊥
 IsUnheld held name (answer.NoTile tile) = ⊥
 IsUnheld held name (answer.TileLost other) = (other ≡ name) × IfSome held (λ files. get files name ≡ None)
 IsUnheld held name (answer.OldVersion version) = ⊥
+IsUnheld held name (answer.NotOld version) = ⊥
 IsUnheld held name answer.StoreFault = Unit {0}
 IsUnheld held name answer.NoMemory = Unit {0}
 
@@ -51,5 +52,6 @@ IsNotStored held exists tile (answer.Trouble trouble) = ⊥
 IsNotStored held exists tile (answer.NoTile other) = (exists ≡ false) × (other ≡ tile)
 IsNotStored held exists tile (answer.TileLost name) = (exists ≡ true) × IsLost held tile name
 IsNotStored held exists tile (answer.OldVersion version) = ⊥
+IsNotStored held exists tile (answer.NotOld version) = ⊥
 IsNotStored held exists tile answer.StoreFault = Unit {0}
 IsNotStored held exists tile answer.NoMemory = Unit {0}

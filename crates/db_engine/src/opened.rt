@@ -27,8 +27,9 @@ impl Model for Opened {
 }
 
 impl Opened {
-    // One that may be used.
-    pub(crate) fn of(params: Params, rows: Vec<Summary>) -> Opened
+    /// One that may be used, with these params and these cells in short. They ascend by their keys, and are at most
+    /// 4096. Whether a store holds them is the caller's to know.
+    pub fn of(params: Params, rows: Vec<Summary>) -> Opened
         requires { AreRows rows.items }
         ensures { result ≡ contents_of params rows.items true }
     {

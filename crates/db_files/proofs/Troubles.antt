@@ -26,6 +26,7 @@ stop_is keys held (answer.Trouble trouble) stop = absurd stop
 stop_is keys held (answer.NoTile tile) stop = stop
 stop_is keys held (answer.TileLost name) stop = stop
 stop_is keys held (answer.OldVersion version) stop = stop
+stop_is keys held (answer.NotOld version) stop = stop
 stop_is keys held answer.StoreFault stop = tt
 stop_is keys held answer.NoMemory stop = tt
 
@@ -77,6 +78,7 @@ answer_by keys keys' a b (answer.Trouble trouble) each is = each trouble is
 answer_by keys keys' a b (answer.NoTile tile) each is = is
 answer_by keys keys' a b (answer.TileLost name) each is = is
 answer_by keys keys' a b (answer.OldVersion version) each is = is
+answer_by keys keys' a b (answer.NotOld version) each is = is
 answer_by keys keys' a b answer.StoreFault each is = tt
 answer_by keys keys' a b answer.NoMemory each is = tt
 

@@ -7,7 +7,7 @@ use Rattle.cell_mosaic.specs.Cells.{Shapes}
 use Rattle.cell_mosaic.specs.Source.{IsTroubleWith, ShowsNamed, AlikeCells}
 use Rattle.cell_cache.specs.Cached.{shapes_of_rows}
 use Rattle.database.specs.declared.answer.EngineAnswer.{EngineAnswer}
-use Rattle.database.specs.declared.answer.EngineAnswer.TheVariants.{CellPresent, CellAbsent, DatabaseFull, NotEmpty, NotADatabase, Trouble, NoTile, TileLost, OldVersion, StoreFault, NoMemory}
+use Rattle.database.specs.declared.answer.EngineAnswer.TheVariants.{CellPresent, CellAbsent, DatabaseFull, NotEmpty, NotADatabase, Trouble, NoTile, TileLost, OldVersion, NotOld, StoreFault, NoMemory}
 
 -- the trouble is with the cell of one of these keys, and the files show it under that cell's name where they are told
 pub record IsShownTrouble (keys : Shapes) (held : Option Files) (trouble : CellTrouble) : Type 0 where
@@ -25,6 +25,7 @@ IsStopOrTrouble keys held (Trouble trouble) = IsShownTrouble keys held trouble
 IsStopOrTrouble keys held (NoTile tile) = ⊥
 IsStopOrTrouble keys held (TileLost name) = ⊥
 IsStopOrTrouble keys held (OldVersion version) = ⊥
+IsStopOrTrouble keys held (NotOld version) = ⊥
 IsStopOrTrouble keys held StoreFault = Unit {0}
 IsStopOrTrouble keys held NoMemory = Unit {0}
 

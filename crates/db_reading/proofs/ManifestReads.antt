@@ -29,5 +29,6 @@ held_refused files bytes (answer.Trouble trouble) held t = t
 held_refused files bytes (answer.NoTile tile) held t = t
 held_refused files bytes (answer.TileLost name) held t = t
 held_refused files bytes (answer.OldVersion version) held t = subst (λ o. IsSomeAnd o (IsOld version)) held t
+held_refused files bytes (answer.NotOld version) held t = t
 held_refused files bytes answer.StoreFault held t = tt
 held_refused files bytes answer.NoMemory held t = tt

@@ -80,6 +80,7 @@ stop_at_row files mark rows i key cells (answer.Trouble trouble) less is so_far 
 stop_at_row files mark rows i key cells (answer.NoTile tile) less is so_far t = t
 stop_at_row files mark rows i key cells (answer.TileLost name) less is so_far t = t
 stop_at_row files mark rows i key cells (answer.OldVersion version) less is so_far t = t
+stop_at_row files mark rows i key cells (answer.NotOld version) less is so_far t = t
 stop_at_row files mark rows i key cells answer.StoreFault less is so_far t = tt
 stop_at_row files mark rows i key cells answer.NoMemory less is so_far t = tt
 
@@ -135,6 +136,7 @@ told_of files params mark rows (answer.Trouble trouble) is t = first_of files pa
 told_of files params mark rows (answer.NoTile tile) is t = t
 told_of files params mark rows (answer.TileLost name) is t = t
 told_of files params mark rows (answer.OldVersion version) is t = absurd t
+told_of files params mark rows (answer.NotOld version) is t = t
 told_of files params mark rows answer.StoreFault is t = tt
 told_of files params mark rows answer.NoMemory is t = tt
 
@@ -153,6 +155,7 @@ stop_of files params mark rows (answer.Trouble trouble) s m is t reads =
 stop_of files params mark rows (answer.NoTile tile) s m is t reads = t
 stop_of files params mark rows (answer.TileLost name) s m is t reads = t
 stop_of files params mark rows (answer.OldVersion version) s m is t reads = t
+stop_of files params mark rows (answer.NotOld version) s m is t reads = t
 stop_of files params mark rows answer.StoreFault s m is t reads = tt
 stop_of files params mark rows answer.NoMemory s m is t reads = tt
 
@@ -166,6 +169,7 @@ told_none files (answer.Trouble trouble) t = absurd t
 told_none files (answer.NoTile tile) t = t
 told_none files (answer.TileLost name) t = t
 told_none files (answer.OldVersion version) t = t
+told_none files (answer.NotOld version) t = t
 told_none files answer.StoreFault t = tt
 told_none files answer.NoMemory t = tt
 
@@ -179,6 +183,7 @@ stop_none files (answer.Trouble trouble) s m t reads = t
 stop_none files (answer.NoTile tile) s m t reads = t
 stop_none files (answer.TileLost name) s m t reads = t
 stop_none files (answer.OldVersion version) s m t reads = not_old version (of_state reads) t
+stop_none files (answer.NotOld version) s m t reads = t
 stop_none files answer.StoreFault s m t reads = tt
 stop_none files answer.NoMemory s m t reads = tt
 

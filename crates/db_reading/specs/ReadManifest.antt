@@ -9,7 +9,7 @@ use Rattle.db_manifest.specs.Manifest.{ManifestState}
 use Rattle.db_manifest.specs.Reading.{IsTextOf}
 use Rattle.database.specs.Opening.{IsOld, RefusedAt}
 use Rattle.database.specs.declared.answer.EngineAnswer.{EngineAnswer}
-use Rattle.database.specs.declared.answer.EngineAnswer.TheVariants.{CellPresent, CellAbsent, DatabaseFull, NotEmpty, NotADatabase, Trouble, NoTile, TileLost, OldVersion, StoreFault, NoMemory}
+use Rattle.database.specs.declared.answer.EngineAnswer.TheVariants.{CellPresent, CellAbsent, DatabaseFull, NotEmpty, NotADatabase, Trouble, NoTile, TileLost, OldVersion, NotOld, StoreFault, NoMemory}
 
 -- bytes are refused as this answer says: they are of an old version, or of none and refused for a line
 abbrev pub IsRefusedAs : List ℕ → EngineAnswer → Type 0
@@ -22,6 +22,7 @@ IsRefusedAs bytes (Trouble trouble) = ⊥
 IsRefusedAs bytes (NoTile tile) = ⊥
 IsRefusedAs bytes (TileLost name) = ⊥
 IsRefusedAs bytes (OldVersion version) = IsOld version bytes
+IsRefusedAs bytes (NotOld version) = ⊥
 IsRefusedAs bytes StoreFault = ⊥
 IsRefusedAs bytes NoMemory = Unit {0}
 
@@ -42,5 +43,6 @@ IsNoManifest files (Trouble trouble) = ⊥
 IsNoManifest files (NoTile tile) = ⊥
 IsNoManifest files (TileLost name) = ⊥
 IsNoManifest files (OldVersion version) = IsSomeAnd (get files Manifest) (IsOld version)
+IsNoManifest files (NotOld version) = ⊥
 IsNoManifest files StoreFault = Unit {0}
 IsNoManifest files NoMemory = Unit {0}

@@ -11,7 +11,7 @@ use Rattle.database.specs.Opening.{IsKept}
 use Rattle.database.specs.Reading.{kept_bytes, summaries_read}
 use Rattle.database.specs.State.{kept_under}
 use Rattle.database.specs.declared.answer.EngineAnswer.{EngineAnswer}
-use Rattle.database.specs.declared.answer.EngineAnswer.TheVariants.{CellPresent, CellAbsent, DatabaseFull, NotEmpty, NotADatabase, Trouble, NoTile, TileLost, OldVersion, StoreFault, NoMemory}
+use Rattle.database.specs.declared.answer.EngineAnswer.TheVariants.{CellPresent, CellAbsent, DatabaseFull, NotEmpty, NotADatabase, Trouble, NoTile, TileLost, OldVersion, NotOld, StoreFault, NoMemory}
 
 -- the row's cell is held, and this is it in short
 pub record IsRead (files : Files) (mark : ManifestState) (key : CellKey) (cell : Summary) : Type 0 where
@@ -34,6 +34,7 @@ IsRowTrouble files mark key (Trouble trouble) = IsTroubleAt files mark key troub
 IsRowTrouble files mark key (NoTile tile) = ⊥
 IsRowTrouble files mark key (TileLost name) = ⊥
 IsRowTrouble files mark key (OldVersion version) = ⊥
+IsRowTrouble files mark key (NotOld version) = ⊥
 IsRowTrouble files mark key StoreFault = Unit {0}
 IsRowTrouble files mark key NoMemory = Unit {0}
 
@@ -65,5 +66,6 @@ IsRowsTrouble files mark rows (Trouble trouble) = IsFirstRow files mark rows tro
 IsRowsTrouble files mark rows (NoTile tile) = ⊥
 IsRowsTrouble files mark rows (TileLost name) = ⊥
 IsRowsTrouble files mark rows (OldVersion version) = ⊥
+IsRowsTrouble files mark rows (NotOld version) = ⊥
 IsRowsTrouble files mark rows StoreFault = Unit {0}
 IsRowsTrouble files mark rows NoMemory = Unit {0}

@@ -13,7 +13,7 @@ use Rattle.terrain_base.specs.Run.{AllDone, Ran}
 use Rattle.terrain_base.specs.Step.{Files}
 use Rattle.terrain_base.proofs.Overwrites.{files_of_told}
 use Rattle.database.specs.declared.answer.EngineAnswer.{EngineAnswer}
-use Rattle.database.specs.declared.answer.EngineAnswer.TheVariants.{CellPresent, CellAbsent, DatabaseFull, NotEmpty, NotADatabase, Trouble, NoTile, TileLost, OldVersion, StoreFault, NoMemory}
+use Rattle.database.specs.declared.answer.EngineAnswer.TheVariants.{CellPresent, CellAbsent, DatabaseFull, NotEmpty, NotADatabase, Trouble, NoTile, TileLost, OldVersion, NotOld, StoreFault, NoMemory}
 use Rattle.database.specs.Answer.{IsStop, OnlyStops}
 use Rattle.database.specs.Commands.{rebuild_calls}
 use Rattle.database.specs.State.{State, AreFiles, StandsMarked}
@@ -65,6 +65,7 @@ full_is_stop (Trouble trouble) files held log log' none full = full
 full_is_stop (NoTile tile) files held log log' none full = full
 full_is_stop (TileLost name) files held log log' none full = full
 full_is_stop (OldVersion version) files held log log' none full = full
+full_is_stop (NotOld version) files held log log' none full = full
 full_is_stop StoreFault files held log log' none full = tt
 full_is_stop NoMemory files held log log' none full = tt
 
@@ -105,6 +106,7 @@ only_by (Trouble trouble) stop cause = absurd stop
 only_by (NoTile tile) stop cause = absurd stop
 only_by (TileLost name) stop cause = absurd stop
 only_by (OldVersion version) stop cause = absurd stop
+only_by (NotOld version) stop cause = absurd stop
 only_by StoreFault stop cause = elim (cause refl) [ inl rose ↦ never rose | inr rose ↦ never rose ]
 only_by NoMemory stop cause = refl
 

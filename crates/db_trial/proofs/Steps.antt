@@ -6,7 +6,7 @@ use Rattle.terrain_base.specs.declared.store.Change.{Change}
 use Rattle.terrain_base.specs.Step.{Files}
 use Rattle.tile_deps.specs.Tiles.{touched}
 use Rattle.database.specs.declared.answer.EngineAnswer.{EngineAnswer}
-use Rattle.database.specs.declared.answer.EngineAnswer.TheVariants.{CellPresent, CellAbsent, DatabaseFull, NotEmpty, NotADatabase, Trouble, NoTile, TileLost, OldVersion, StoreFault, NoMemory}
+use Rattle.database.specs.declared.answer.EngineAnswer.TheVariants.{CellPresent, CellAbsent, DatabaseFull, NotEmpty, NotADatabase, Trouble, NoTile, TileLost, OldVersion, NotOld, StoreFault, NoMemory}
 use Rattle.database.specs.Answer.{IsStop, OnlyStops}
 use Rattle.database.specs.Commands.{Command, Add, Replace, Remove, after, edit_of, has_key, key_of, next, refusal_of}
 use Rattle.database.specs.State.{State, AreFiles}
@@ -47,6 +47,7 @@ stop_told T P (Trouble trouble) stop = absurd stop
 stop_told T P (NoTile tile) stop = absurd stop
 stop_told T P (TileLost name) stop = absurd stop
 stop_told T P (OldVersion version) stop = absurd stop
+stop_told T P (NotOld version) stop = absurd stop
 stop_told T P StoreFault stop = (tt, tt)
 stop_told T P NoMemory stop = (tt, tt)
 

@@ -6,7 +6,7 @@ use Rattle.terrain_base.specs.declared.summary.Summary.{Summary}
 use Rattle.terrain_base.specs.Step.{Files}
 use Rattle.dted_cell.specs.Trouble.{IsCellAt}
 use Rattle.database.specs.declared.answer.EngineAnswer.{EngineAnswer}
-use Rattle.database.specs.declared.answer.EngineAnswer.TheVariants.{CellPresent, CellAbsent, DatabaseFull, NotEmpty, NotADatabase, Trouble, NoTile, TileLost, OldVersion, StoreFault, NoMemory}
+use Rattle.database.specs.declared.answer.EngineAnswer.TheVariants.{CellPresent, CellAbsent, DatabaseFull, NotEmpty, NotADatabase, Trouble, NoTile, TileLost, OldVersion, NotOld, StoreFault, NoMemory}
 use Rattle.database.specs.Cells.{row_key}
 use Rattle.database.specs.Commands.{Command, Add, next, refusal_of}
 use Rattle.database.specs.State.{State, AreFiles}
@@ -37,6 +37,7 @@ told_of (Err (Trouble trouble)) = Err (Trouble trouble)
 told_of (Err (NoTile tile)) = Err (NoTile tile)
 told_of (Err (TileLost name)) = Err (TileLost name)
 told_of (Err (OldVersion version)) = Err (OldVersion version)
+told_of (Err (NotOld version)) = Err (NotOld version)
 told_of (Err StoreFault) = Err StoreFault
 told_of (Err NoMemory) = Err NoMemory
 

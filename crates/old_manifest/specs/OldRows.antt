@@ -16,7 +16,7 @@ use Rattle.old_manifest.specs.Rows.{ending_of, old_rank_of, old_text, old_cmp, o
 pub same_row : (a b : OldRow) → a.square ≡ b.square → a.level ≡ b.level → a ≡ b
 same_row a b p q = λ i. record { square = p i; level = q i }
 
-old_total : IsTotalOrder old_cmp
+pub old_total : IsTotalOrder old_cmp
 old_total =
     then_total (on_total (λ (r : OldRow). r.square) squares_total)
     (on_total (λ (r : OldRow). old_rank_of r.level) nat_cmp_total)

@@ -6,5 +6,5 @@ mod row;
 #[cfg(test)]
 mod tests;
 
-pub use manifest::OldManifest;
+pub use manifest::{OldManifest, grammar_of};
 pub use row::OldRow;

@@ -23,8 +23,8 @@ impl Model for OldManifest {
     ghost view = { λ m. contents_of m.parts };
 }
 
-// The version by whose grammar bytes are read.
-fn grammar_of(bytes: &[u8]) -> Version
+/// The version by whose grammar bytes are read: 2 where their first line is that of version 2, else 1.
+pub fn grammar_of(bytes: &[u8]) -> Version
     ensures { result ≡ version_of bytes.now }
 {
     if bytes.starts_with(b"terrain-db 2\n") {

@@ -13,6 +13,10 @@ use Rattle.db_files.proofs.Fillings.{serves_filling, stop_at_extra, stop_at_tile
 use Rattle.db_files.proofs.Yielded.{first_gives}
 use Rattle.db_files.proofs.rebuilding.refill.Goals as goal
 
+pub returns-in_err-names-clause-ran : goal.returns-in_err-names-clause-ran
+returns-in_err-names-clause-ran g c = λ files s f.
+    at_err c.from_residual.result _ c.from_residual.ensures.1 (not_yet c.in_err-names.ensures.same c.in_err-names.ensures.quiet)
+
 pub returns-in_err-delete_extra-clause-ran : goal.returns-in_err-delete_extra-clause-ran
 returns-in_err-delete_extra-clause-ran g c = λ files s f.
     at_err c.from_residual-in_err-delete_extra.result _ c.from_residual-in_err-delete_extra.ensures.1

@@ -1,0 +1,3 @@
+pub mod MovedNames
+pub mod CellMoves
+pub mod Bringing

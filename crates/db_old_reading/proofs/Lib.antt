@@ -1,0 +1,5 @@
+pub mod KeptNames
+pub mod OldStates
+pub mod OldOpenings
+pub mod OldRowsRead
+pub mod OldFound
