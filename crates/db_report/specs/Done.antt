@@ -25,6 +25,10 @@ edited_line_of edited square tiles = joined (word_of edited ∷ codes " " ∷ sq
 abbrev pub rebuilt_line_of : ℕ → List ℕ
 rebuilt_line_of tiles = joined (codes "rebuilt tiles " ∷ decimal tiles ∷ [])
 
+-- `migrated cells M tiles N`
+abbrev pub migrated_line_of : ℕ → ℕ → List ℕ
+migrated_line_of cells tiles = joined (codes "migrated cells " ∷ decimal cells ∷ codes " tiles " ∷ decimal tiles ∷ [])
+
 -- `line K: `, before the report of a script's line
 abbrev pub script_mark_of : ℕ → List ℕ
 script_mark_of number = joined (codes "line " ∷ decimal number ∷ codes ": " ∷ [])

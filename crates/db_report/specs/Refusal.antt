@@ -8,7 +8,7 @@ use Rattle.terrain_base.specs.SquareText.{square_text}
 use Rattle.dted_cell.specs.declared.trouble.CellTrouble.{CellTrouble}
 use Rattle.dted_cell.specs.declared.trouble.CellTrouble.TheVariants.{Lost, Bad, Elsewhere, Changed}
 use Rattle.database.specs.declared.answer.EngineAnswer.{EngineAnswer}
-use Rattle.database.specs.declared.answer.EngineAnswer.TheVariants.{CellPresent, CellAbsent, DatabaseFull, NotEmpty, NotADatabase, Trouble, NoTile, TileLost, OldVersion, StoreFault, NoMemory}
+use Rattle.database.specs.declared.answer.EngineAnswer.TheVariants.{CellPresent, CellAbsent, DatabaseFull, NotEmpty, NotADatabase, Trouble, NoTile, TileLost, OldVersion, NotOld, StoreFault, NoMemory}
 use Rattle.report_text.specs.Words.{joined}
 use Rattle.report_text.specs.Refusal.{cell_refusal_of}
 
@@ -36,5 +36,6 @@ refusal_text_of (Trouble trouble) = Some (trouble_text_of trouble)
 refusal_text_of (NoTile tile) = Some (joined (codes "K10 no tile " ∷ tile_text tile ∷ []))
 refusal_text_of (TileLost name) = Some (joined (codes "K11 tile lost " ∷ text_of name ∷ []))
 refusal_text_of (OldVersion version) = Some (joined (codes "K12 old version " ∷ decimal version ∷ []))
+refusal_text_of (NotOld version) = Some (joined (codes "K13 not old version " ∷ decimal version ∷ []))
 refusal_text_of StoreFault = None
 refusal_text_of NoMemory = None

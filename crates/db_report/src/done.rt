@@ -1,6 +1,6 @@
 // Lines that tell what was done.
 ghost use Rattle.std.specs.Prelude.{◌≡◌, IfOk, string_bytes};
-ghost use Rattle.db_report.specs.Done.{word_of, created_line_of, edited_line_of, rebuilt_line_of, script_line_of, script_mark_of};
+ghost use Rattle.db_report.specs.Done.{word_of, created_line_of, edited_line_of, migrated_line_of, rebuilt_line_of, script_line_of, script_mark_of};
 
 use crate::words::square_word;
 use std::alloc::Global;
@@ -54,6 +54,14 @@ pub fn rebuilt_line(alloc: Global, tiles: u64) -> Result<String, NoMemory>
     ensures { IfOk result (λ line. string_bytes line ≡ rebuilt_line_of tiles) }
 {
     Ok(format!(in alloc; "rebuilt tiles {tiles}")?)
+}
+
+/// What is printed of a database that was brought to the present version, without the line feed: how many cells and how
+/// many tiles there are.
+pub fn migrated_line(alloc: Global, cells: u64, tiles: u64) -> Result<String, NoMemory>
+    ensures { IfOk result (λ line. string_bytes line ≡ migrated_line_of cells tiles) }
+{
+    Ok(format!(in alloc; "migrated cells {cells} tiles {tiles}")?)
 }
 
 /// What stands before the report of a script's line: its number, from 1.

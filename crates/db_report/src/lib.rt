@@ -12,7 +12,9 @@ mod trial;
 mod words;
 
 pub use check::check_line;
-pub use done::{Edited, created_line, edited_line, rebuilt_line, script_line, script_mark};
+pub use done::{
+    Edited, created_line, edited_line, migrated_line, rebuilt_line, script_line, script_mark,
+};
 pub use listing::{deps_text, list_text};
 pub use refusal::{NO_COMMAND, refusal_text};
 pub use tile::tile_line;

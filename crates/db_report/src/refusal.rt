@@ -53,7 +53,7 @@ fn trouble_text(alloc: Global, trouble: &CellTrouble) -> Result<String, NoMemory
     }
 }
 
-/// What is printed of an answer that refuses, from its number on: `K1` to `K12`. `None` exactly where it refuses nothing,
+/// What is printed of an answer that refuses, from its number on: `K1` to `K13`. `None` exactly where it refuses nothing,
 /// since the store failed or memory was refused.
 pub fn refusal_text(alloc: Global, answer: &EngineAnswer) -> Result<Option<String>, NoMemory>
     ensures { IfOk result (λ text. option_map string_bytes text ≡ refusal_text_of answer.now) }
@@ -85,6 +85,7 @@ pub fn refusal_text(alloc: Global, answer: &EngineAnswer) -> Result<Option<Strin
             format!(in alloc; "K11 tile lost {name}")?
         }
         EngineAnswer::OldVersion { version } => format!(in alloc; "K12 old version {version}")?,
+        EngineAnswer::NotOld { version } => format!(in alloc; "K13 not old version {version}")?,
         EngineAnswer::StoreFault => return Ok(None),
         EngineAnswer::NoMemory => return Ok(None),
     };

@@ -1,5 +1,5 @@
 -- The reply to what is asked of a database is not empty, and nothing else is changed.
-use Rattle.std.proofs.Common.{◌≡◌, ◌⊎◌, ℕ, ℤ, ◌<◌, ◌≤◌, Bool, true, false, List, [], ◌∷◌, length, Option, Some, None, Result, Ok, Err, IfErr, IfOk, sym, subst, inl, inr, arith}
+use Rattle.std.proofs.Common.{◌≡◌, ◌⊎◌, ℕ, ℤ, ◌<◌, ◌≤◌, Bool, true, false, List, [], ◌∷◌, length, Option, Some, None, Result, Ok, Err, IfErr, IfOk, refl, sym, subst, inl, inr, arith}
 use Rattle.std.specs.Prelude.{if◌then◌else◌}
 use Rattle.std.specs.FinMap.{get}
 use Rattle.terrain_base.specs.declared.name.Key.TheVariants.{Terrain, Note}
@@ -15,22 +15,26 @@ use Rattle.heightmap_out.specs.Tile.{heightmap_of}
 use Rattle.db_heightmap.proofs.Lengths.{has_bytes}
 use Rattle.report_text.specs.TileRefusal.{tile_refusal_text_of}
 use Rattle.top_words.specs.declared.command.Query.{Query}
-use Rattle.top_words.specs.declared.command.Query.TheVariants.{List as ListCells, Inspect, Deps, Heightmap}
+use Rattle.top_words.specs.declared.command.Query.TheVariants.{List as ListCells, Inspect, Deps, Heightmap, Surface}
 use Rattle.database.specs.declared.answer.EngineAnswer.TheVariants as answer
 use Rattle.database.specs.State.{State, tile_exists}
 use Rattle.db_report.specs.Listing.{deps_text_of}
 use Rattle.top_reply.specs.declared.stop.Stop.{Stop}
 use Rattle.top_reply.specs.declared.stop.Stop.TheVariants as stop
-use Rattle.top_reply.specs.Course.{Course, World, StopsIn, text_turn}
+use Rattle.terrain_base.specs.Library.{LibraryFiles}
+use Rattle.top_words.specs.Words.{Ask}
+use Rattle.top_reply.specs.Course.{Course, World, StopsIn, said, text_turn}
 use Rattle.top_reply.specs.Database.{IsAsked}
 use Rattle.top_reply.specs.Query.{IsInspected, IsReplyTo, IsShownBy, deps_reply, heightmap_reply, shown_by}
 use Rattle.top_reply.specs.Reply.{Reply, cause_of, refused_reply, text_reply}
 use Rattle.terrain_top.specs.declared.answer.Answer.{Answer}
 use Rattle.terrain_top.specs.Comes.{Comes}
 use Rattle.terrain_top.specs.Says.{Says}
+use Rattle.terrain_top.specs.Told.{HasOpened, HasReply}
 use Rattle.terrain_top.specs.Turns.{TurnStops}
 use Rattle.terrain_top.proofs.Coming.{comes_as, in_turn, said_comes}
 use Rattle.terrain_top.proofs.EditsGo.{some_cause}
+use Rattle.terrain_top.proofs.Surfaces.{some_asked}
 
 -- ---- it is not empty
 
@@ -75,6 +79,7 @@ some_reply (Heightmap tile) s files reply is =
     as_reply reply (heightmap_reply tile s) is
     (some_deps (tile_exists s tile) (cause_of (answer.NoTile tile)) (heightmap_of s.params s.cells tile)
     (has_bytes s.params s.cells tile))
+some_reply (Surface tile question) s files reply is = some_asked (tile_exists s tile) tile question files reply is
 
 -- ---- a question changes nothing
 
@@ -99,3 +104,9 @@ asked_comes query s files course w w' result is says only held log taken few =
     comes_as _ course w w' result (sym is.course_is)
     (said_comes is.reply w w' result (says is.reply is.is) (some_reply query s files is.reply is.is)
     held log taken few (stopped is.reply w w' result only held log taken))
+
+pub asked_has : (query : Query) (s : State) (files : Files) (library : LibraryFiles) (result : Result Answer Stop)
+    → IfOk result (λ a. HasReply query s files) → IfOk result (λ a. HasOpened (Ask query) library s files)
+asked_has query s files library (Ok a) has =
+    (said has.0, record { reply = has.0; is = has.1; course_is = refl })
+asked_has query s files library (Err e) has = tt

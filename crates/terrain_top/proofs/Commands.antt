@@ -22,7 +22,7 @@ use Rattle.report_text.specs.Finding.{finding_text_of}
 use Rattle.report_text.specs.Refusal.{cell_refusal_of}
 use Rattle.report_text.specs.Tile.{audit_line_of}
 use Rattle.report_text.specs.TileRefusal.{tile_refusal_text_of}
-use Rattle.top_words.specs.Words.{Command, DatabaseCommand, Init, Database, ReadCell, Audit, Convert, Trial}
+use Rattle.top_words.specs.Words.{Command, DatabaseCommand, Init, Database, ReadCell, Audit, Migrate, Convert, Trial}
 use Rattle.database.specs.Opening as opens
 use Rattle.top_reply.specs.declared.status.Status.{Status}
 use Rattle.top_reply.specs.declared.stop.Stop.{Stop}
@@ -40,7 +40,7 @@ use Rattle.top_reply.specs.Trial.{IsTrialCourse}
 use Rattle.terrain_top.specs.declared.answer.Answer.{Answer}
 use Rattle.terrain_top.specs.Comes.{Comes}
 use Rattle.terrain_top.specs.Says.{Says, SaysSome}
-use Rattle.terrain_top.specs.Told.{HasOfDatabase}
+use Rattle.terrain_top.specs.Told.{HasOfDatabase, HasMigrated}
 use Rattle.terrain_top.proofs.Coming.{comes_as, not_begun, said_comes}
 use Rattle.terrain_top.proofs.EditsGo.{some_behind, some_cause, some_line}
 use Rattle.terrain_top.proofs.Scripts.{on_ok}
@@ -191,6 +191,15 @@ told_init params held library files books result is = on_ok result (record {
   course = init_course params files;
   is = record { files = files; books = books; opening = some_opening; store_tells = is; library_tells = tt; opens = tt; is = refl };
 })
+
+pub told_migrate : (held : Option Files) (library : Option LibraryFiles) (files : Files) (books : LibraryFiles)
+    (result : Result Answer Stop) → held ≡ Some files → IfOk result (λ a. HasMigrated files)
+    → IfOk result (λ a. HasCourse (Some Migrate) held library)
+told_migrate held library files books (Ok a) is has = record {
+  course = has.0;
+  is = record { files = files; books = books; opening = some_opening; store_tells = is; library_tells = tt; opens = tt; is = has.1 };
+}
+told_migrate held library files books (Err e) is has = tt
 
 pub told_trial : (count number : ℕ) (held : Option Files) (library : Option LibraryFiles) (files : Files)
     (books : LibraryFiles) (result : Result Answer Stop)

@@ -53,6 +53,7 @@ stop_untold (answer.Trouble trouble) a st t = st
 stop_untold (answer.NoTile tile) a st t = st
 stop_untold (answer.TileLost name) a st t = st
 stop_untold (answer.OldVersion version) a st t = st
+stop_untold (answer.NotOld version) a st t = st
 stop_untold answer.StoreFault a st t = t
 stop_untold answer.NoMemory a st t = t
 

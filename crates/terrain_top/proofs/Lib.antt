@@ -6,8 +6,10 @@ pub mod EditsGo
 pub mod Heightmaps
 pub mod Lines
 pub mod Meanings
+pub mod Migrations
 pub mod Scripts
 pub mod Settled
+pub mod Surfaces
 pub mod Tiles
 pub mod Trials
 pub mod Whole

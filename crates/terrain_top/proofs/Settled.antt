@@ -64,9 +64,9 @@ module _ (command : DatabaseCommand) (library : LibraryFiles) (files : Files) (w
       (subst (λ x. IsDatabaseCourse command library files x course)
       (one_opening files opening (opens.Opens opened.state opened.mark) opening_is opened.reads) course_is)
 
-  pub settled_told : ((s : State) (held : Files) → IfOk result (λ a. HasOpened command library s held))
-      → IfOk result (λ a. HasOfDatabase command library files)
-  settled_told told = has_of result (told opened.state (all_changed (settling opened.mark files opened.state) files))
+  pub settled_told : ((s : State) (held : Files) → Holds m.held o s → m.held ≡ Some held
+      → IfOk result (λ a. HasOpened command library s held)) → IfOk result (λ a. HasOfDatabase command library files)
+  settled_told told = has_of result (told opened.state (all_changed (settling opened.mark files opened.state) files) opened.holds held_is)
     where
       has_of : (r : Result Answer Stop)
           → IfOk r (λ a. HasOpened command library opened.state (all_changed (settling opened.mark files opened.state) files))
@@ -110,6 +110,7 @@ tells_opening (answer.NoTile tile) a files opening held log log' work work' r is
 tells_opening (answer.TileLost name) a files opening held log log' work work' r is t = absurd r
 tells_opening (answer.OldVersion version) a files opening held log log' work work' r is t =
     as_told a files opening (opens.OldVersion version) is r.0 t
+tells_opening (answer.NotOld version) a files opening held log log' work work' r is t = absurd r
 tells_opening answer.StoreFault a files opening held log log' work work' r is t = absurd t
 tells_opening answer.NoMemory a files opening held log log' work work' r is t = absurd t
 
@@ -129,6 +130,7 @@ has_opening (answer.NoTile tile) a command library files held log log' work work
 has_opening (answer.TileLost name) a command library files held log log' work work' r t = absurd r
 has_opening (answer.OldVersion version) a command library files held log log' work work' r t =
     record { opening = opens.OldVersion version; opens = r.0; course = said (refused_reply (cause_of (answer.OldVersion version))); is = refl }
+has_opening (answer.NotOld version) a command library files held log log' work work' r t = absurd r
 has_opening answer.StoreFault a command library files held log log' work work' r t = absurd t
 has_opening answer.NoMemory a command library files held log log' work work' r t = absurd t
 

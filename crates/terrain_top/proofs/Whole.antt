@@ -65,6 +65,7 @@ module _ (params : Params) (files : Files) (held held' : Option Files) (log log'
   full_untold (answer.NoTile tile) a none full told = full
   full_untold (answer.TileLost name) a none full told = full
   full_untold (answer.OldVersion version) a none full told = full
+  full_untold (answer.NotOld version) a none full told = full
   full_untold answer.StoreFault a none full told = told
   full_untold answer.NoMemory a none full told = told
 
@@ -83,6 +84,7 @@ module _ (params : Params) (files : Files) (held held' : Option Files) (log log'
   full_says (answer.NoTile tile) a name names some full told = absurd full
   full_says (answer.TileLost other) a name names some full told = absurd full
   full_says (answer.OldVersion version) a name names some full told = absurd full
+  full_says (answer.NotOld version) a name names some full told = absurd full
   full_says answer.StoreFault a name names some full told = absurd told
   full_says answer.NoMemory a name names some full told = absurd told
 

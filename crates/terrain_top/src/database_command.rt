@@ -6,13 +6,14 @@ ghost use Rattle.database.specs.Opening.{Opening, OpensAs};
 ghost use Rattle.database.specs.State.{State};
 ghost use Rattle.db_engine.specs.Holding.{Holds};
 ghost use Rattle.top_words.specs.Meant.{database_meant};
+ghost use Rattle.top_words.specs.Words.{IsGoodOfDatabase};
 ghost use Rattle.top_reply.specs.Course.{Course, world};
 ghost use Rattle.top_reply.specs.Database.{IsDatabaseCourse, IsOpenedCourse};
 ghost use Rattle.top_reply.specs.Top.{Tells, database_looks, database_reads};
 ghost use Rattle.terrain_top.specs.Comes.{Comes};
 ghost use Rattle.terrain_top.specs.Effects.{StopHasCause};
 ghost use Rattle.terrain_top.specs.Says.{IsPlain};
-ghost use Rattle.terrain_top.specs.Told.{HasOfDatabase};
+ghost use Rattle.terrain_top.specs.Told.{HasOfDatabase, HasOpened};
 
 use crate::answer::Answer;
 use crate::change::answer_to_rebuild;
@@ -37,13 +38,17 @@ fn answer_opened<St: Store, Li: Library, Si: Sink>(
     command: &DatabaseCommand<'_>,
     work: &mut Work,
 ) -> Result<Answer, Stop>
-    requires { opened.old.live ≡ true }
+    requires live { opened.old.live ≡ true }
+    requires good { IsGoodOfDatabase (database_meant command.now) }
     ensures comes { (s : State) (held : Files) (library : LibraryFiles) (course : Course)
         → Holds (St.holds store.old) opened.old s → St.holds store.old ≡ Some held
         → Tells (database_reads (database_meant command.now)) (Li.holds files.old) library
         → IsOpenedCourse (database_meant command.now) library s held course → Comes course
         (world (St.holds store.old) (St.log store.old) (Si.taken out.old) work.old)
         (world (St.holds store.new) (St.log store.new) (Si.taken out.new) work.new) result }
+    ensures has { (s : State) (held : Files) (library : LibraryFiles) → Holds (St.holds store.old) opened.old s
+        → St.holds store.old ≡ Some held
+        → IfOk result (λ answer. HasOpened (database_meant command.now) library s held) }
     ensures same { Li.holds files.new ≡ Li.holds files.old }
     ensures library { StopHasCause Stop.Input (Li.faults files.old) (Li.faults files.new) result }
     ensures reads { IsErrOf result Stop.Input → database_reads (database_meant command.now) ≡ true }
@@ -72,6 +77,7 @@ pub(crate) fn answer_to_database<St: Store, Li: Library, Si: Sink>(
     command: &DatabaseCommand<'_>,
     work: &mut Work,
 ) -> Result<Answer, Stop>
+    requires { IsGoodOfDatabase (database_meant command.now) }
     ensures comes { (held : Files) (library : LibraryFiles) (opening : Opening) (course : Course)
         → St.holds store.old ≡ Some held
         → Tells (database_reads (database_meant command.now)) (Li.holds files.old) library → OpensAs held opening

@@ -11,6 +11,7 @@ mod database_command;
 mod edit;
 mod engine_answer;
 mod file;
+mod migrate;
 mod print;
 mod query;
 mod script;

@@ -4,12 +4,16 @@ ghost use Rattle.db_report.specs.Listing.{list_text_of};
 ghost use Rattle.db_report.specs.Tile.{IsHeightWord};
 ghost use Rattle.mesh_codec.specs.Tile.{header_in};
 ghost use Rattle.terrain_top.specs.Effects.{OnlyMemory, OnStore};
-ghost use Rattle.terrain_top.specs.Says.{IsPlain, Says};
+ghost use Rattle.terrain_top.specs.Says.{IsPlain, Says, SaysSome};
+ghost use Rattle.terrain_top.specs.Told.{HasReply};
 ghost use Rattle.terrain_base.specs.Step.{Files};
 ghost use Rattle.availability.specs.Existence.{exists_of};
 ghost use Rattle.database.specs.State.{State};
 ghost use Rattle.db_engine.specs.Holding.{Holds};
-ghost use Rattle.top_reply.specs.Query.{IsInspected, IsReplyTo, deps_reply, heightmap_reply, shown_reply};
+ghost use Rattle.tile_query.specs.Question.{IsGoodQuestion};
+ghost use Rattle.top_words.specs.Words.{IsGoodQuery};
+ghost use Rattle.top_reply.specs.Query.{IsInspected, IsReplyTo, IsSurfaceAsked, IsSurfaceReply, deps_reply};
+ghost use Rattle.top_reply.specs.Query.{heightmap_reply, shown_reply};
 ghost use Rattle.top_reply.specs.Reply.{Reply, text_reply};
 
 use crate::answer::{Answer, Ending, refused};
@@ -24,6 +28,7 @@ use report_text::tile_refusal_text;
 use std::alloc::Global;
 use terrain_base::{Store, TileId};
 use tile_deps::DepIndex;
+use tile_query::{Answer as SurfaceAnswer, Question, answer};
 use top_reply::Stop;
 use top_words::Query;
 
@@ -131,6 +136,50 @@ fn answer_to_heightmap<St: Store>(
     }
 }
 
+// What is told of the surface of a tile, by the bytes of its terrain.
+fn tell_surface(
+    alloc: Global,
+    tile: TileId,
+    terrain: &[u8],
+    question: &Question,
+) -> Result<Answer, Stop>
+    requires { IsGoodQuestion tile question.now }
+    ensures says { IfOk result (SaysSome (IsSurfaceReply tile question.now terrain.now)) }
+    ensures plain { IfOk result IsPlain }
+    ensures memory { OnlyMemory result }
+{
+    match answer(alloc, tile, terrain, question)? {
+        SurfaceAnswer::Told(text) => Ok(Answer {
+            ending: Ending::Done,
+            text: text.into_bytes(),
+        }),
+        SurfaceAnswer::Refused(cause) => refused(alloc, &cause),
+    }
+}
+
+// What is told of the surface of a stored tile.
+fn answer_to_surface<St: Store>(
+    alloc: Global,
+    store: &mut St,
+    opened: &Opened,
+    tile: TileId,
+    question: &Question,
+) -> Result<Answer, Stop>
+    requires live { opened.now.live ≡ true }
+    requires good { IsGoodQuestion tile question.now }
+    ensures says { (files : Files) → St.holds store.old ≡ Some files → IfOk result
+        (SaysSome (IsSurfaceAsked (exists_of opened.now.params.cap opened.now.rows tile) tile question.now files)) }
+    ensures plain { IfOk result IsPlain }
+    ensures same { St.holds store.new ≡ St.holds store.old }
+    ensures quiet { St.log store.new ≡ St.log store.old }
+    ensures store { OnStore (St.faults store.old) (St.faults store.new) result }
+{
+    match stored_tile(store, opened, tile) {
+        Ok(files) => tell_surface(alloc, tile, &files.terrain, question),
+        Err(answer) => answer_of(alloc, &answer),
+    }
+}
+
 /// Answers what is asked of an opened database.
 pub(crate) fn answer_to_query<St: Store>(
     alloc: Global,
@@ -138,9 +187,12 @@ pub(crate) fn answer_to_query<St: Store>(
     opened: &Opened,
     query: Query,
 ) -> Result<Answer, Stop>
-    requires { opened.now.live ≡ true }
+    requires live { opened.now.live ≡ true }
+    requires good { IsGoodQuery query }
     ensures says { (s : State) (files : Files) (reply : Reply) → Holds (St.holds store.old) opened.now s
         → St.holds store.old ≡ Some files → IsReplyTo query s files reply → IfOk result (Says reply) }
+    ensures has { (s : State) (files : Files) → Holds (St.holds store.old) opened.now s
+        → St.holds store.old ≡ Some files → IfOk result (λ answer. HasReply query s files) }
     ensures plain { IfOk result IsPlain }
     ensures same { St.holds store.new ≡ St.holds store.old }
     ensures quiet { St.log store.new ≡ St.log store.old }
@@ -151,5 +203,8 @@ pub(crate) fn answer_to_query<St: Store>(
         Query::Inspect { tile } => answer_to_inspect(alloc, store, opened, tile),
         Query::Deps { tile } => answer_to_deps(alloc, opened, tile),
         Query::Heightmap { tile } => answer_to_heightmap(alloc, store, opened, tile),
+        Query::Surface { tile, question } => {
+            answer_to_surface(alloc, store, opened, tile, &question)
+        }
     }
 }

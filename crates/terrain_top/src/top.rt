@@ -1,11 +1,12 @@
 // The call that does all that the program does.
-ghost use Rattle.std.specs.Prelude.{◌≡◌, ◌≢◌, ◌≤◌, ◌↔◌, ◌⊎◌, true, false, IfOk, IsErrOf, Option, Some, None, ℕ, List};
+ghost use Rattle.std.specs.Prelude.{◌≡◌, ◌≢◌, ◌≤◌, ◌↔◌, ◌⊎◌, true, false, IfOk, IfSome, IsErrOf, Option, Some, None, ℕ, List};
 ghost use Rattle.std.specs.Prelude.{option_map, map, string_bytes};
 ghost use Rattle.terrain_base.specs.declared.store.Change.{Change};
 ghost use Rattle.terrain_base.specs.Library.{LibraryFiles};
 ghost use Rattle.terrain_base.specs.Step.{Files};
 ghost use Rattle.top_words.specs.Meant.{meant};
 ghost use Rattle.top_words.specs.Words as spelled;
+ghost use Rattle.top_words.specs.Words.{IsGood};
 ghost use Rattle.top_reply.specs.Course.{Course, Goes, said, world};
 ghost use Rattle.top_reply.specs.Run.{FaultHasCause, Headline, IsFrontOf, OnStop, StopsReading, StopsStanding};
 ghost use Rattle.top_reply.specs.Status.{IsAnswer};
@@ -23,6 +24,7 @@ use crate::cell::answer_to_cell;
 use crate::change::answer_to_init;
 use crate::convert::answer_to_convert;
 use crate::database_command::answer_to_database;
+use crate::migrate::answer_to_migrate;
 use crate::print::print;
 use crate::status::{status_of, status_of_stop};
 use crate::trial::answer_to_trial;
@@ -33,7 +35,7 @@ use top_words::{Command, command_in};
 
 /// What is printed where the words are no command.
 const USAGE: &str =
-    "usage: terrain DIR init CAP FILL | add FILE | replace FILE | remove SQUARE V | apply SCRIPT | rebuild | list | inspect Z X Y | deps Z X Y | cell FILE | audit FILE | check | trial COUNT NUMBER | convert FILE | heightmap Z X Y\n";
+    "usage: terrain DIR init CAP FILL | add FILE | replace FILE | remove SQUARE V | apply SCRIPT | rebuild | list | inspect Z X Y | deps Z X Y | cell FILE | audit FILE | check | trial COUNT NUMBER | migrate | convert FILE | heightmap Z X Y | height Z E N | profile Z X Y U1 V1 U2 V2 | sight Z X Y U1 V1 A1 U2 V2 A2 | view Z X Y U V A\n";
 
 // Does a command. Its last text is handed back.
 fn answer_to<St: Store, Li: Library, Si: Sink>(
@@ -44,6 +46,7 @@ fn answer_to<St: Store, Li: Library, Si: Sink>(
     out: &mut Si,
     work: &mut Work,
 ) -> Result<Answer, Stop>
+    requires { IsGood (meant command.now) }
     ensures comes { (course : Course)
         → IsCourseOf (Some (meant command.now)) (St.holds store.old) (Li.holds files.old) course → Comes course
         (world (St.holds store.old) (St.log store.old) (Si.taken out.old) work.old)
@@ -70,6 +73,7 @@ fn answer_to<St: Store, Li: Library, Si: Sink>(
         Command::Database(command) => answer_to_database(alloc, store, files, out, command, work),
         Command::Cell { file } => answer_to_cell(alloc, files, file),
         Command::Audit { file } => answer_to_audit(alloc, files, file),
+        Command::Migrate => answer_to_migrate(alloc, store, work),
         Command::Convert { file } => answer_to_convert(alloc, files, file),
         Command::Trial { count, number } => answer_to_trial(alloc, *count, *number, work),
     }
@@ -84,6 +88,7 @@ fn run_command<St: Store, Li: Library, Si: Sink>(
     out: &mut Si,
     work: &mut Work,
 ) -> Result<Ending, Stop>
+    requires { IsGood (meant command.now) }
     ensures passes { (course : Course)
         → IsCourseOf (Some (meant command.now)) (St.holds store.old) (Li.holds files.old) course → Passes course
         (world (St.holds store.old) (St.log store.old) (Si.taken out.old) work.old)
@@ -132,6 +137,7 @@ fn run_meant<St: Store, Li: Library, Si: Sink>(
     out: &mut Si,
     work: &mut Work,
 ) -> Status
+    requires { IfSome (option_map meant command) IsGood }
     ensures replies { (course : Course)
         → IsCourseOf (option_map meant command.entry) (St.holds store.old) (Li.holds files.old) course → Goes course
         (world (St.holds store.old) (St.log store.old) (Si.taken out.old) work.old)
@@ -162,6 +168,7 @@ fn run_meant<St: Store, Li: Library, Si: Sink>(
 // The command that the words spell.
 fn command_of(words: &[String]) -> Option<Command<'_>>
     ensures means { IsMeant (map string_bytes words.now) (option_map meant result) }
+    ensures good { IfSome (option_map meant result) IsGood }
     ensures one { (meaning : Option spelled.Command) → IsMeant (map string_bytes words.now) meaning
         → meaning ≡ option_map meant result }
 {

@@ -13,8 +13,8 @@ use Rattle.mesh_codec.specs.Tile.{header_in, mesh_in}
 use Rattle.mesh_check.proofs.LawProofs.{one_verdict_law}
 use Rattle.report_text.specs.Words.{joined}
 use Rattle.top_words.specs.declared.command.Query.{Query}
-use Rattle.top_words.specs.declared.command.Query.TheVariants.{List as ListCells, Inspect, Deps, Heightmap}
-use Rattle.top_words.specs.Words.{Add, Replace, Remove, DatabaseCommand, Ask, Change, Apply, Rebuild, Check, Command, Init, Database, ReadCell, Audit, Convert, Trial}
+use Rattle.top_words.specs.declared.command.Query.TheVariants.{List as ListCells, Inspect, Deps, Heightmap, Surface}
+use Rattle.top_words.specs.Words.{Add, Replace, Remove, DatabaseCommand, Ask, Change, Apply, Rebuild, Check, Command, Init, Database, ReadCell, Audit, Migrate, Convert, Trial}
 use Rattle.database.specs.Opening.{Opening, Opens, OldVersion, NotADatabase, InTrouble, OpensAs}
 use Rattle.database.specs.State.{State, AreFiles, tile_exists}
 use Rattle.database.proofs.Openings.{one_opening}
@@ -31,7 +31,11 @@ use Rattle.top_reply.specs.File.{Found, Bytes, NoFile, IsReplyBy, found_in, scri
 use Rattle.top_reply.specs.Laws.{OneCourse, OneState}
 use Rattle.top_reply.specs.Lines.{after_lines, commands_of, lines_course}
 use Rattle.top_reply.specs.Passed.{ReachesBy}
-use Rattle.top_reply.specs.Query.{IsInspected, IsReplyTo, IsShownBy, shown_reply}
+use Rattle.top_reply.specs.Query.{IsInspected, IsReplyTo, IsShownBy, shown_reply, IsSurfaceAsked, IsSurfaceBy, answer_reply}
+use Rattle.top_reply.specs.Migrate.{IsMigrated, migrate_by}
+use Rattle.tile_query.specs.declared.question.Question.{Question}
+use Rattle.tile_query.proofs.OneAnswer.{one_answer}
+use Rattle.db_old_reading.proofs.OldOpenings.{one_opening as files_migrate_once}
 use Rattle.top_reply.specs.Reply.{Reply}
 use Rattle.top_reply.specs.Top.{IsCourse, IsCourseOf, Tells, database_reads}
 use Rattle.db_trial.specs.Trial.{IsTotal, IsTrial, bytes_in}
@@ -71,12 +75,30 @@ one_inspected : (exists : Bool) (tile : TileId) (files : Files) (a b : Reply) �
 one_inspected false tile files a b p q = p ∙ sym q
 one_inspected true tile files a b p q = one_shown tile (get files (Terrain tile)) (get files (Note tile)) a b p q
 
+-- ---- the surface of a stored tile
+
+one_surface : (tile : TileId) (question : Question) (terrain note : Option (List ℕ)) (a b : Reply)
+    → IsSurfaceBy tile question terrain note a → IsSurfaceBy tile question terrain note b → a ≡ b
+one_surface tile question None _ a b p q = p ∙ sym q
+one_surface tile question (Some terrain) None a b p q = p ∙ sym q
+one_surface tile question (Some terrain) (Some note) a b p q =
+    p.reply_is ∙ ap answer_reply (one_answer tile terrain question p.answer q.answer p.is q.is) ∙ sym q.reply_is
+
+pub one_surface_asked : (exists : Bool) (tile : TileId) (question : Question) (files : Files) (a b : Reply)
+    → IsSurfaceAsked exists tile question files a → IsSurfaceAsked exists tile question files b → a ≡ b
+one_surface_asked false tile question files a b p q = p ∙ sym q
+one_surface_asked true tile question files a b p q =
+    one_surface tile question (get files (Terrain tile)) (get files (Note tile)) a b p q
+
+-- ---- all questions
+
 one_reply : (query : Query) (s : State) (files : Files) (a b : Reply) → IsReplyTo query s files a
     → IsReplyTo query s files b → a ≡ b
 one_reply ListCells s files a b p q = p ∙ sym q
 one_reply (Inspect tile) s files a b p q = one_inspected (tile_exists s tile) tile files a b p q
 one_reply (Deps tile) s files a b p q = p ∙ sym q
 one_reply (Heightmap tile) s files a b p q = p ∙ sym q
+one_reply (Surface tile question) s files a b p q = one_surface_asked (tile_exists s tile) tile question files a b p q
 
 -- ---- over a database
 
@@ -169,6 +191,12 @@ one_trial count number a b p q =
     p.course_is ∙ ap (trial_course_by count number) (one_line count number p.report q.report p.is_trial q.is_trial)
     ∙ sym q.course_is
 
+-- ---- a migration
+
+one_migrated : (files : Files) (a b : Course) → IsMigrated files a → IsMigrated files b → a ≡ b
+one_migrated files a b p q =
+    p.course_is ∙ ap (migrate_by files) (files_migrate_once files p.opening q.opening p.opens q.opens) ∙ sym q.course_is
+
 -- ---- all commands
 
 one_of_command : (meaning : Option Command) (held : Option Files) (library : Option LibraryFiles) (a b : Course)
@@ -191,6 +219,10 @@ one_of_command (Some (Audit file)) held library a b p q =
     let books : p.books ≡ q.books = some_same p.books q.books (sym p.library_tells ∙ q.library_tells) in
     let here = subst (λ books. IsCourse (Some (Audit file)) p.files books p.opening a) books p.is in
     here.course_is ∙ ap said (one_audit file (get q.books file) here.reply q.is.reply here.is q.is.is) ∙ sym q.is.course_is
+one_of_command (Some Migrate) held library a b p q =
+    let files : p.files ≡ q.files = some_same p.files q.files (sym p.store_tells ∙ q.store_tells) in
+    let here = subst (λ held. IsMigrated held a) files p.is in
+    one_migrated q.files a b here q.is
 one_of_command (Some (Convert file)) held library a b p q =
     let books : p.books ≡ q.books = some_same p.books q.books (sym p.library_tells ∙ q.library_tells) in
     subst (λ books. IsCourse (Some (Convert file)) p.files books p.opening a) books p.is ∙ sym q.is

@@ -8,10 +8,13 @@ use Rattle.terrain_base.specs.Overwrite.{all_changed}
 use Rattle.terrain_base.specs.Step.{Files}
 use Rattle.manifest_lines.specs.declared.state.State.TheVariants.{Closed}
 use Rattle.db_manifest.specs.Manifest.{ManifestState}
-use Rattle.top_words.specs.Words.{DatabaseCommand, Command, Init, Database, ReadCell, Audit, Convert, Trial}
+use Rattle.manifest_lines.specs.declared.version.Version.{Version}
+use Rattle.top_words.specs.declared.command.Query.{Query}
+use Rattle.top_words.specs.Words.{DatabaseCommand, Ask, Change, Apply, Rebuild, Check, Command, Init, Database, ReadCell, Audit, Migrate, Convert, Trial}
 use Rattle.database.specs.Commands.{rebuild_calls, settling}
-use Rattle.database.specs.Opening.{Opens}
+use Rattle.database.specs.Opening.{Opens, OpensAs}
 use Rattle.database.specs.State.{State, AreFiles, ReadsAs, ReadsFor, StandsFor}
+use Rattle.database.proofs.Openings.{one_opening}
 use Rattle.database.proofs.Starting.{calls_end, calls_stand, files_stand}
 use Rattle.db_engine.specs.Holding.{no_cells}
 use Rattle.db_engine.specs.Settling.{count_settling}
@@ -20,13 +23,18 @@ use Rattle.top_reply.specs.declared.status.Status.{Status}
 use Rattle.top_reply.specs.declared.status.Status.TheVariants as status
 use Rattle.top_reply.specs.declared.stop.Stop.{Stop}
 use Rattle.top_reply.specs.Course.{Answered, Course, Goes, GoesBy, StopsIn, World, quiet_turn}
-use Rattle.top_reply.specs.Database.{IsOpenedCourse, after_settling, created_turn, init_by}
+use Rattle.db_migrate.specs.Moves.{migrating}
+use Rattle.db_old_reading.specs.OldOpening.{Migrates}
+use Rattle.db_old_reading.specs.OldReads.{OldMark, OldReads, OldReadsFor}
+use Rattle.db_migrate.proofs.Bringing.{fronts as migrating_fronts, ends as migrating_ends}
+use Rattle.top_reply.specs.Migrate.{migrate_by, migrated_turn}
+use Rattle.top_reply.specs.Database.{IsAsked, IsDatabaseCourse, IsOpenedCourse, after_settling, created_turn, init_by}
 use Rattle.top_reply.specs.File.{HoldsBytes}
 use Rattle.top_reply.specs.Laws.{AllArrive, AllArrived, FilesAreGood, Ordered}
 use Rattle.top_reply.specs.Passed.{StopsBetween}
 use Rattle.top_reply.specs.Run.{Headline, HoldsFilesOf, IsFrontOf, OnStop, OnStopBy, StopsFrom, StopsReading, StopsStanding}
 use Rattle.top_reply.specs.Status.{IsAnswer, stop_of}
-use Rattle.top_reply.specs.Top.{IsCourseOf, Tells, database_reads}
+use Rattle.top_reply.specs.Top.{HasCourse, IsCourseOf, Tells, database_reads, reads_file, touches_store}
 use Rattle.top_reply.proofs.Betweens.{AreKept, AreSettled, ReadClosed, passage, read_kept, settled_path, settling_stands, settling_still_reads, stand_kept}
 use Rattle.top_reply.proofs.Courses.{some_first}
 use Rattle.top_reply.proofs.EachCourse.{has_opened}
@@ -156,6 +164,57 @@ begun_stops params held library w w' s same goes = λ files is none.
     (begun_path params files none) (same ∙ is) at)
     (goes course (begun_course params held library files is none))
 
+-- ---- a migration
+
+-- the files read as the state by its old version, or stand for it
+abbrev OldOrStands : Version → State → Files → State → Type 0
+OldOrStands version t files s = OldReadsFor files version t ⊎ StandsFor files t
+
+abbrev AreBrought : State → Files → State → Type 0
+AreBrought t files s = AreSettled files t
+
+migrated_path : (files : Files) (version : Version) (t : State) (mark : OldMark) → OldReads files version t mark
+    → Path (OldOrStands version t) (AreBrought t) files t (migrated_turn version mark files t ∷ []) (t ∷ [])
+migrated_path files version t mark reads =
+    let steps = migrating version mark files t in
+    let ends = migrating_ends files version t mark reads in (
+      record {
+        begins = inl (record { mark = mark; reads = reads });
+        fronts = λ n le. inl (migrating_fronts files version t mark reads n le);
+        ends = inr (record { mark = Closed; stands = files_stand t (all_changed steps files) reads.state ends });
+      },
+      (ends, reads.state),
+    )
+
+migrated_course : (files : Files) (version : Version) (t : State) (mark : OldMark) → Course
+migrated_course files version t mark = migrate_by files (Migrates version t mark)
+
+is_migrated_course : (held : Option Files) (library : Option LibraryFiles) (files : Files) (version : Version) (t : State)
+    (mark : OldMark) → held ≡ Some files → OldReads files version t mark
+    → IsCourseOf (Some Migrate) held library (migrated_course files version t mark)
+unfolding migrated_course
+is_migrated_course held library files version t mark is reads = record {
+  files = files;
+  books = empty;
+  opening = Opens t Closed;
+  store_tells = is;
+  library_tells = tt;
+  opens = tt;
+  is = record { opening = Migrates version t mark; opens = reads; course_is = refl };
+}
+
+migrated_stops : (held : Option Files) (library : Option LibraryFiles) (w w' : World) (s : Status) → w.held ≡ held
+    → GoesAll (Some Migrate) held library w w' s → StopsStanding (Some Migrate) held library w w' s
+unfolding migrated_course
+migrated_stops held library w w' s same goes = λ files version t is old.
+    let course = migrated_course files version t old.mark in
+    on_stop course w w' s
+    (λ e. IsSomeAnd w'.held (λ now. OldReadsFor now version t ⊎ StandsFor now t)) (stop_of s)
+    (λ e at. stop_among (OldOrStands version t) (AreBrought t)
+    (λ now. OldReadsFor now version t ⊎ StandsFor now t) (λ now u holds. holds) e course.turns t (t ∷ []) files w w'
+    (migrated_path files version t old.mark old.reads) (same ∙ is) at)
+    (goes course (is_migrated_course held library files version t old.mark is old.reads))
+
 -- ---- where it stops
 
 pub stops_standing : (meaning : Option Command) (held : Option Files) (library : Option LibraryFiles)
@@ -168,6 +227,7 @@ stops_standing (Some (Database command)) held library w w' s same goes = λ file
     stands.reads (settling_stands t mark files stands)
 stops_standing (Some (ReadCell file)) held library w w' s same goes = tt
 stops_standing (Some (Audit file)) held library w w' s same goes = tt
+stops_standing (Some Migrate) held library w w' s same goes = migrated_stops held library w w' s same goes
 stops_standing (Some (Convert file)) held library w w' s same goes = tt
 stops_standing (Some (Trial count number)) held library w w' s same goes = tt
 
@@ -181,6 +241,7 @@ stops_reading (Some (Database command)) held library w w' s same goes = λ files
     reads (settling_still_reads t mark files reads)
 stops_reading (Some (ReadCell file)) held library w w' s same goes = tt
 stops_reading (Some (Audit file)) held library w w' s same goes = tt
+stops_reading (Some Migrate) held library w w' s same goes = tt
 stops_reading (Some (Convert file)) held library w w' s same goes = tt
 stops_reading (Some (Trial count number)) held library w w' s same goes = tt
 
@@ -206,15 +267,57 @@ begun_holds good params held library w w' s same goes = λ files is none answer.
     files w w' (begun_path params files none) (same ∙ is) done.turns in
     holds_of good (no_cells params) w'.held ends.0 ends.1 ends.2
 
+migrated_holds : FilesAreGood → (held : Option Files) (library : Option LibraryFiles) (w w' : World) (s : Status)
+    → w.held ≡ held → GoesAll (Some Migrate) held library w w' s → Headline (Some Migrate) held library w'.held s
+unfolding migrated_course
+migrated_holds good held library w w' s same goes = λ files version t is old answer.
+    let course = migrated_course files version t old.mark in
+    let done = answered course w w' s answer
+    (goes course (is_migrated_course held library files version t old.mark is old.reads)) in
+    let ends = run_ends (OldOrStands version t) (AreBrought t) course.turns t (t ∷ []) files w w'
+    (migrated_path files version t old.mark old.reads) (same ∙ is) done.turns in
+    holds_of good t w'.held ends.0 ends.1 ends.2
+
+-- over objects that tell what they hold an answer has a course
+abbrev pub AnswersBy : Option Command → Option Files → Option LibraryFiles → Status → Type 0
+AnswersBy meaning held library s = (files : Files) (books : LibraryFiles) → Tells (touches_store meaning) held files
+    → Tells (reads_file meaning) library books → IsAnswer s → HasCourse meaning held library
+
+-- over the settled database a question has the rest of its course
+asked_opened : (query : Query) (held : Option Files) (library : Option LibraryFiles) (files : Files) (t : State)
+    (mark : ManifestState) → held ≡ Some files → ReadsAs files t mark
+    → HasCourse (Some (Database (Ask query))) held library
+    → (course : Course) × IsAsked query t (all_changed (settling mark files t) files) course
+asked_opened query held library files t mark is reads has =
+    let of = has.is in
+    let same : of.files ≡ files = cc (sym of.store_tells ∙ is) in
+    let opens = subst (λ now. OpensAs now of.opening) same of.opens in
+    let one : of.opening ≡ Opens t mark = one_opening files of.opening (Opens t mark) opens reads in
+    let here = subst (λ now. IsDatabaseCourse (Ask query) of.books now of.opening has.course) same of.is in
+    let settled = subst (λ opening. IsDatabaseCourse (Ask query) of.books files opening has.course) one here in
+    (settled.rest, settled.rest_is)
+
+-- a command has it
+some_opened : (command : DatabaseCommand) (held : Option Files) (library : Option LibraryFiles) (files : Files)
+    (books : LibraryFiles) (t : State) (mark : ManifestState) → held ≡ Some files → ReadsAs files t mark
+    → HasCourse (Some (Database command)) held library
+    → (course : Course) × IsOpenedCourse command books t (all_changed (settling mark files t) files) course
+some_opened (Ask query) held library files books t mark is reads has =
+    asked_opened query held library files t mark is reads has
+some_opened (Change edit) held library files books t mark is reads has = has_opened (Change edit) books t (all_changed (settling mark files t) files) refl
+some_opened (Apply script) held library files books t mark is reads has = has_opened (Apply script) books t (all_changed (settling mark files t) files) refl
+some_opened Rebuild held library files books t mark is reads has = has_opened Rebuild books t (all_changed (settling mark files t) files) refl
+some_opened Check held library files books t mark is reads has = has_opened Check books t (all_changed (settling mark files t) files) refl
+
 database_arrives : FilesAreGood → (command : DatabaseCommand) (held : Option Files) (library : Option LibraryFiles)
     (w w' : World) (s : Status) → w.held ≡ held → GoesAll (Some (Database command)) held library w w' s
-    → Headline (Some (Database command)) held library w'.held s
-database_arrives good command held library w w' s same goes = λ files books t is tells holds stands answer.
+    → AnswersBy (Some (Database command)) held library s → Headline (Some (Database command)) held library w'.held s
+database_arrives good command held library w w' s same goes by = λ files books t is tells holds stands answer.
     let mark = stands.mark in
     let reads = stands.stands.reads in
     let steps = settling mark files t in
     let tiles = count_settling mark t in
-    let rest = has_opened command books t (all_changed steps files) in
+    let rest = some_opened command held library files books t mark is reads (by files books is tells answer) in
     let course = after_settling steps tiles rest.0 in
     let passage = passage command books t (all_changed steps files) rest.0 rest.1 in
     let done = answered course w w' s answer
@@ -231,16 +334,18 @@ database_arrives good command held library w w' s same goes = λ files books t i
 
 pub headline : FilesAreGood → (meaning : Option Command) (held : Option Files) (library : Option LibraryFiles)
     (w w' : World) (s : Status) → w.held ≡ held → GoesAll meaning held library w w' s
-    → Headline meaning held library w'.held s
-headline good None held library w w' s same goes = tt
-headline good (Some (Init params)) held library w w' s same goes =
+    → AnswersBy meaning held library s → Headline meaning held library w'.held s
+headline good None held library w w' s same goes by = tt
+headline good (Some (Init params)) held library w w' s same goes by =
     begun_holds good params held library w w' s same goes
-headline good (Some (Database command)) held library w w' s same goes =
-    database_arrives good command held library w w' s same goes
-headline good (Some (ReadCell file)) held library w w' s same goes = tt
-headline good (Some (Audit file)) held library w w' s same goes = tt
-headline good (Some (Convert file)) held library w w' s same goes = tt
-headline good (Some (Trial count number)) held library w w' s same goes = tt
+headline good (Some (Database command)) held library w w' s same goes by =
+    database_arrives good command held library w w' s same goes by
+headline good (Some (ReadCell file)) held library w w' s same goes by = tt
+headline good (Some (Audit file)) held library w w' s same goes by = tt
+headline good (Some Migrate) held library w w' s same goes by =
+    migrated_holds good held library w w' s same goes
+headline good (Some (Convert file)) held library w w' s same goes by = tt
+headline good (Some (Trial count number)) held library w w' s same goes by = tt
 
 -- ---- any number of runs
 

@@ -20,8 +20,8 @@ use Rattle.post_bound.proofs.Spans.{bound_keeps_law}
 use Rattle.tile_rule.specs.Tile.{terrain_of, note_of}
 use Rattle.tile_rule.proofs.Tiles.{good_law}
 use Rattle.top_words.specs.declared.command.Query.{Query}
-use Rattle.top_words.specs.declared.command.Query.TheVariants.{List as ListCells, Inspect, Deps, Heightmap}
-use Rattle.top_words.specs.Words.{Add, Replace, Remove, DatabaseCommand, Ask, Change, Apply, Rebuild, Check, Command, Init, Database, ReadCell, Audit, Convert, Trial}
+use Rattle.top_words.specs.declared.command.Query.TheVariants.{List as ListCells, Inspect, Deps, Heightmap, Surface}
+use Rattle.top_words.specs.Words.{Add, Replace, Remove, DatabaseCommand, Ask, Change, Apply, Rebuild, Check, Command, Init, Database, ReadCell, Audit, Migrate, Convert, Trial}
 use Rattle.database.specs.Commands.{settling}
 use Rattle.database.specs.Opening.{Opening, Opens, OpensAs}
 use Rattle.database.specs.State.{State, AreFiles, tile_exists, where_it_is}
@@ -40,7 +40,15 @@ use Rattle.top_reply.specs.Edits.{status_by}
 use Rattle.top_reply.specs.File.{IsReplyBy, cell_limit, found_in, reply_by, script_limit}
 use Rattle.top_reply.specs.Laws.{ValidEndsWell}
 use Rattle.top_reply.specs.Lines.{commands_of, refused_in}
-use Rattle.top_reply.specs.Query.{IsInspected, IsReplyTo, IsShownBy, shown_by, shown_reply}
+use Rattle.top_reply.specs.Query.{IsInspected, IsReplyTo, IsShownBy, shown_by, shown_reply, IsSurfaceAsked, IsSurfaceBy, answer_reply}
+use Rattle.top_reply.specs.Migrate.{IsMigrated, IsOldDatabase, migrate_by}
+use Rattle.tile_query.specs.declared.question.Question.{Question}
+use Rattle.tile_query.specs.Answer.{AnswerText, Told, Refused}
+use Rattle.tile_query.specs.Laws.{IsTelling}
+use Rattle.tile_query.proofs.OneAnswer.{told_where_read}
+use Rattle.tile_field.proofs.Tiles.{each_tile_is_read}
+use Rattle.db_old_reading.specs.OldOpening.{Migrates}
+use Rattle.db_old_reading.proofs.OldOpenings.{one_opening as files_migrate_once}
 use Rattle.top_reply.specs.Reply.{Reply}
 use Rattle.top_reply.specs.Status.{IsAnswer}
 use Rattle.top_reply.specs.Top.{HasCourse, IsCourse, IsCourseOf, IsOpenedAs, Tells, database_reads, reads_file, touches_store}
@@ -84,6 +92,32 @@ chosen_done : (there : Bool) (shown refused : Reply) → there ≡ true → show
 chosen_done true shown refused is done = done
 chosen_done false shown refused is done = absurd (cc)
 
+-- ---- the surface of a stored tile
+
+telling_done : (answer : AnswerText) → IsTelling answer → (answer_reply answer).status ≡ Done
+telling_done (Told text) telling = refl
+telling_done (Refused cause) telling = absurd telling
+
+-- a state's tile is read, so that the question is answered
+surface_done : (s : State) (files : Files) (tile : TileId) (question : Question) (reply : Reply) → AreFiles files s
+    → AreSound s.cells → tile_exists s tile ≡ true → IsSurfaceAsked (tile_exists s tile) tile question files reply
+    → reply.status ≡ Done
+surface_done s files tile question reply are sound exists is =
+    let terrain = terrain_of s.params s.cells tile in
+    let note = note_of s.params s.cells tile in
+    let first : get files (Terrain tile) ≡ Some terrain =
+    are.each (Terrain tile) ∙ ap (λ there. where_it_is there terrain) exists in
+    let second : get files (Note tile) ≡ Some note =
+    are.each (Note tile) ∙ ap (λ there. where_it_is there note) exists in
+    let held : IsSurfaceBy tile question (get files (Terrain tile)) (get files (Note tile)) reply =
+    subst (λ there. IsSurfaceAsked there tile question files reply) exists is in
+    let shown : IsSurfaceBy tile question (Some terrain) (Some note) reply =
+    subst (λ held. IsSurfaceBy tile question (Some terrain) held reply) second
+    (subst (λ held. IsSurfaceBy tile question held (get files (Note tile)) reply) first held) in
+    let read = each_tile_is_read s.params s.cells tile sound in
+    ap (λ told. told.status) shown.reply_is
+    ∙ telling_done shown.answer (told_where_read tile terrain question shown.answer read.1.0 read.0 read.1.1 shown.is)
+
 reply_done : (query : Query) (s : State) (files : Files) (reply : Reply) → AreFiles files s → AreSound s.cells
     → IsValidQuery query s → IsReplyTo query s files reply → reply.status ≡ Done
 reply_done ListCells s files reply are sound valid is = ap (λ told. told.status) is
@@ -92,6 +126,8 @@ reply_done (Deps tile) s files reply are sound valid is =
     ap (λ told. told.status) is ∙ chosen_done (tile_exists s tile) _ _ valid refl
 reply_done (Heightmap tile) s files reply are sound valid is =
     ap (λ told. told.status) is ∙ chosen_done (tile_exists s tile) _ _ valid refl
+reply_done (Surface tile question) s files reply are sound valid is =
+    surface_done s files tile question reply are sound valid is
 
 -- ---- over a database
 
@@ -175,6 +211,10 @@ command_done (Audit file) files library opening course opens is valid =
     let reply = subst (λ found. IsReplyBy IsTileReply found is.reply) valid.found is.is in
     subst (EndsWell (Audit file)) (sym (ap (λ (told : Course). told.status) is.course_is))
     (tile_ends file valid.bytes is.reply valid.fine reply)
+command_done Migrate files library opening course opens is valid =
+    let brought = Migrates valid.version valid.state valid.mark in
+    let one = files_migrate_once files is.opening brought is.opens valid.reads in
+    inl (ap (λ (told : Course). told.status) (is.course_is ∙ ap (migrate_by files) one))
 command_done (Convert file) files library opening course opens is valid =
     inl (ap (λ (told : Course). told.status) is ∙ convert_done file library (square_named file) valid)
 command_done (Trial count number) files library opening course opens is valid =
@@ -218,6 +258,8 @@ still_valid (ReadCell file) held library files other books others p q r t valid 
     subst (λ held. IsValid (ReadCell file) other held) (told_same true library books others r t refl) valid
 still_valid (Audit file) held library files other books others p q r t valid =
     subst (λ held. IsValid (Audit file) other held) (told_same true library books others r t refl) valid
+still_valid Migrate held library files other books others p q r t valid =
+    subst IsOldDatabase (told_same true held files other p q refl) valid
 still_valid (Convert file) held library files other books others p q r t valid =
     subst (λ held. IsValid (Convert file) other held) (told_same true library books others r t refl) valid
 still_valid (Trial count number) held library files other books others p q r t valid = tt

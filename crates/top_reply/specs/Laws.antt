@@ -1,5 +1,5 @@
 -- What courses and states are held to.
-use Rattle.std.specs.Prelude.{◌≡◌, ℕ, List, [], ◌∷◌, ◌++◌, Option, Some}
+use Rattle.std.specs.Prelude.{◌≡◌, ℕ, List, [], ◌∷◌, ◌++◌, Option, Some, false}
 use Rattle.terrain_base.specs.declared.params.Params.{Params}
 use Rattle.terrain_base.specs.Library.{LibraryFiles}
 use Rattle.terrain_base.specs.Step.{Files, Step}
@@ -15,7 +15,7 @@ use Rattle.top_reply.specs.Lines.{commands_of, lines_course}
 use Rattle.top_reply.specs.Passed.{Passes, Reaches, StopsBetween}
 use Rattle.top_reply.specs.Run.{Arrives, HoldsFilesOf}
 use Rattle.top_reply.specs.Told.{StopsTold, lines_told}
-use Rattle.top_reply.specs.Top.{HasCourse, IsCourseOf}
+use Rattle.top_reply.specs.Top.{HasCourse, IsCourseOf, asks_surface}
 use Rattle.top_reply.specs.Valid.{EndsWell, IsValid}
 
 -- a command has one course
@@ -28,10 +28,12 @@ abbrev pub OneState : Type 0
 OneState = (command : DatabaseCommand) (library : LibraryFiles) (s a b : State)
     → Reaches command library s a → Reaches command library s b → a ≡ b
 
--- over files that open, each command on a database has a course, whatever the library holds
+-- over files that open, each command on a database has a course, whatever the library holds. (That a question about a
+-- stored surface has one is said of each run that answers it.)
 abbrev pub EachHasCourse : Type 0
 EachHasCourse = (command : DatabaseCommand) (files : Files) (library : LibraryFiles) (opening : Opening)
-    → OpensAs files opening → HasCourse (Some (Database command)) (Some files) (Some library)
+    → asks_surface command ≡ false → OpensAs files opening
+    → HasCourse (Some (Database command)) (Some files) (Some library)
 
 -- and it passes states
 abbrev pub EachPasses : Type 0

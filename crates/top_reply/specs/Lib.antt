@@ -9,6 +9,7 @@ pub mod File
 pub mod Good
 pub mod Laws
 pub mod Lines
+pub mod Migrate
 pub mod Passed
 pub mod Query
 pub mod Reply

@@ -15,7 +15,9 @@ use Rattle.heightmap_out.specs.Tile.{heightmap_of}
 use Rattle.report_text.specs.Words.{joined}
 use Rattle.report_text.specs.TileRefusal.{tile_refusal_text_of}
 use Rattle.top_words.specs.declared.command.Query.{Query}
-use Rattle.top_words.specs.declared.command.Query.TheVariants.{List as ListCells, Inspect, Deps, Heightmap}
+use Rattle.tile_query.specs.declared.question.Question.{Question}
+use Rattle.tile_query.specs.Answer.{AnswerText, Told, Refused, IsAnswerTo}
+use Rattle.top_words.specs.declared.command.Query.TheVariants.{List as ListCells, Inspect, Deps, Heightmap, Surface}
 use Rattle.database.specs.declared.answer.EngineAnswer.TheVariants.{NoTile, TileLost}
 use Rattle.database.specs.State.{State, tile_exists}
 use Rattle.db_report.specs.Listing.{deps_text_of, list_text_of}
@@ -63,6 +65,30 @@ abbrev pub IsInspected : Bool → TileId → Files → Reply → Type 0
 IsInspected false tile files reply = reply ≡ refused_reply (cause_of (NoTile tile))
 IsInspected true tile files reply = IsShownBy tile (get files (Terrain tile)) (get files (Note tile)) reply
 
+-- ---- the surface of a stored tile
+
+-- what is told of it, or why it is refused
+abbrev pub answer_reply : AnswerText → Reply
+answer_reply (Told text) = text_reply text
+answer_reply (Refused cause) = refused_reply cause
+
+pub record IsSurfaceReply (tile : TileId) (question : Question) (terrain : List ℕ) (reply : Reply) : Type 0 where
+  pub answer : AnswerText
+  pub is : IsAnswerTo tile terrain question answer
+  pub reply_is : reply ≡ answer_reply answer
+
+-- by what is held under the names of its terrain and its note
+abbrev pub IsSurfaceBy : TileId → Question → Option (List ℕ) → Option (List ℕ) → Reply → Type 0
+IsSurfaceBy tile question None _ reply = reply ≡ refused_reply (cause_of (TileLost (Terrain tile)))
+IsSurfaceBy tile question (Some terrain) None reply = reply ≡ refused_reply (cause_of (TileLost (Note tile)))
+IsSurfaceBy tile question (Some terrain) (Some note) reply = IsSurfaceReply tile question terrain reply
+
+-- by whether it exists
+abbrev pub IsSurfaceAsked : Bool → TileId → Question → Files → Reply → Type 0
+IsSurfaceAsked false tile question files reply = reply ≡ refused_reply (cause_of (NoTile tile))
+IsSurfaceAsked true tile question files reply =
+    IsSurfaceBy tile question (get files (Terrain tile)) (get files (Note tile)) reply
+
 -- ---- all of them
 
 -- over a database of this state, whose files are these
@@ -71,3 +97,4 @@ IsReplyTo ListCells s files reply = reply ≡ text_reply (list_text_of s.params 
 IsReplyTo (Inspect tile) s files reply = IsInspected (tile_exists s tile) tile files reply
 IsReplyTo (Deps tile) s files reply = reply ≡ deps_reply tile s.params.cap (summaries_of s.cells)
 IsReplyTo (Heightmap tile) s files reply = reply ≡ heightmap_reply tile s
+IsReplyTo (Surface tile question) s files reply = IsSurfaceAsked (tile_exists s tile) tile question files reply

@@ -8,7 +8,9 @@ use Rattle.terrain_base.specs.Run.{SomeDone}
 use Rattle.terrain_base.specs.Sink.{FrontTaken}
 use Rattle.terrain_base.specs.Step.{Files}
 use Rattle.db_manifest.specs.Manifest.{ManifestState}
-use Rattle.top_words.specs.Words.{DatabaseCommand, Command, Init, Database, ReadCell, Audit, Convert, Trial}
+use Rattle.manifest_lines.specs.declared.version.Version.{Version}
+use Rattle.db_old_reading.specs.OldReads.{OldReadsFor}
+use Rattle.top_words.specs.Words.{DatabaseCommand, Command, Init, Database, ReadCell, Audit, Migrate, Convert, Trial}
 use Rattle.database.specs.Commands.{settling}
 use Rattle.database.specs.State.{State, IsState, AreFiles, ReadsAs, ReadsFor, StandsMarked, StandsFor}
 use Rattle.db_engine.specs.Holding.{no_cells}
@@ -40,7 +42,8 @@ pub record Arrives (command : DatabaseCommand) (library : LibraryFiles) (s : Sta
   pub holds : HoldsFilesOf held state
 
 -- After any accepted list of adding, replacing and removing cells, begun on files that stand for a state, the files are
--- those of a build from scratch, and every tile is good. The same of a rebuilding, of questions, and of a beginning.
+-- those of a build from scratch, and every tile is good. The same of a rebuilding, of questions, of a beginning, and of a
+-- migration of files that read as the state by an older version.
 abbrev pub Headline : Option Command → Option Files → Option LibraryFiles → Option Files → Status → Type 0
 Headline None held library held' status = Unit {0}
 Headline (Some (Init params)) held library held' status = (files : Files)
@@ -50,6 +53,8 @@ Headline (Some (Database command)) held library held' status = (files : Files) (
     → IsAnswer status → Arrives command books s held'
 Headline (Some (ReadCell file)) held library held' status = Unit {0}
 Headline (Some (Audit file)) held library held' status = Unit {0}
+Headline (Some Migrate) held library held' status = (files : Files) (version : Version) (s : State)
+    → held ≡ Some files → OldReadsFor files version s → IsAnswer status → HoldsFilesOf held' s
 Headline (Some (Convert file)) held library held' status = Unit {0}
 Headline (Some (Trial count number)) held library held' status = Unit {0}
 
@@ -77,7 +82,8 @@ StopsFrom Is command library s mark files w w' status = let steps = settling mar
     → OnStop status (λ e. StopsBetween Is s states (quiet_turn steps (count_settling mark s) ∷ rest.turns) e w w')
 
 -- Over files that stand for a state, a stop leaves files that stand for one that the command passes. A beginning that
--- is stopped leaves nothing, or files that stand for no cells.
+-- is stopped leaves nothing, or files that stand for no cells; a migration files that still read as the state by their
+-- older version, or that stand for it.
 abbrev pub StopsStanding : Option Command → Option Files → Option LibraryFiles → World → World → Status → Type 0
 StopsStanding None held library w w' status = Unit {0}
 StopsStanding (Some (Init params)) held library w w' status = (files : Files)
@@ -89,6 +95,9 @@ StopsStanding (Some (Database command)) held library w w' status =
     → StopsFrom StandsFor command books s mark files w w' status
 StopsStanding (Some (ReadCell file)) held library w w' status = Unit {0}
 StopsStanding (Some (Audit file)) held library w w' status = Unit {0}
+StopsStanding (Some Migrate) held library w w' status = (files : Files) (version : Version) (s : State)
+    → held ≡ Some files → OldReadsFor files version s
+    → OnStop status (λ e. IsSomeAnd w'.held (λ held'. OldReadsFor held' version s ⊎ StandsFor held' s))
 StopsStanding (Some (Convert file)) held library w w' status = Unit {0}
 StopsStanding (Some (Trial count number)) held library w w' status = Unit {0}
 
@@ -102,6 +111,7 @@ StopsReading (Some (Database command)) held library w w' status =
     → StopsFrom ReadsFor command books s mark files w w' status
 StopsReading (Some (ReadCell file)) held library w w' status = Unit {0}
 StopsReading (Some (Audit file)) held library w w' status = Unit {0}
+StopsReading (Some Migrate) held library w w' status = Unit {0}
 StopsReading (Some (Convert file)) held library w w' status = Unit {0}
 StopsReading (Some (Trial count number)) held library w w' status = Unit {0}
 

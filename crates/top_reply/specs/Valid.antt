@@ -8,15 +8,16 @@ use Rattle.hgt_cells.specs.Name.{square_named}
 use Rattle.hgt_cells.specs.Refusal.{hgt_refusal_of}
 use Rattle.mesh_codec.specs.Refusal.{tile_refusal_of}
 use Rattle.top_words.specs.declared.command.Query.{Query}
-use Rattle.top_words.specs.declared.command.Query.TheVariants.{List as ListCells, Inspect, Deps, Heightmap}
+use Rattle.top_words.specs.declared.command.Query.TheVariants.{List as ListCells, Inspect, Deps, Heightmap, Surface}
 use Rattle.top_words.specs.Script.{Line, AreLines}
-use Rattle.top_words.specs.Words.{Edit, DatabaseCommand, Ask, Change, Apply, Rebuild, Check, Command, Init, Database, ReadCell, Audit, Convert, Trial}
+use Rattle.top_words.specs.Words.{Edit, DatabaseCommand, Ask, Change, Apply, Rebuild, Check, Command, Init, Database, ReadCell, Audit, Migrate, Convert, Trial}
 use Rattle.database.specs.State.{State, StandsFor, tile_exists}
 use Rattle.top_reply.specs.declared.status.Status.{Status}
 use Rattle.top_reply.specs.declared.status.Status.TheVariants.{Done, Found}
 use Rattle.top_reply.specs.Edits.{edit_reply}
 use Rattle.top_reply.specs.File.{Bytes, cell_limit, found_in, script_limit, tile_limit}
 use Rattle.top_reply.specs.Lines.{commands_of, refused_in}
+use Rattle.top_reply.specs.Migrate.{IsOldDatabase}
 
 -- ---- how they end
 
@@ -25,6 +26,7 @@ IsAudit (Init params) = ⊥
 IsAudit (Database command) = ⊥
 IsAudit (ReadCell file) = ⊥
 IsAudit (Audit file) = Unit {0}
+IsAudit Migrate = ⊥
 IsAudit (Convert file) = ⊥
 IsAudit (Trial count number) = ⊥
 
@@ -40,6 +42,7 @@ IsValidQuery ListCells s = Unit {0}
 IsValidQuery (Inspect tile) s = tile_exists s tile ≡ true
 IsValidQuery (Deps tile) s = tile_exists s tile ≡ true
 IsValidQuery (Heightmap tile) s = tile_exists s tile ≡ true
+IsValidQuery (Surface tile question) s = tile_exists s tile ≡ true
 
 -- the edit's file is held within its limit and is a cell, and the state accepts the command
 abbrev pub IsAccepted : Edit → LibraryFiles → State → Type 0
@@ -77,6 +80,7 @@ IsValid (Init params) files library = keys files ≡ []
 IsValid (Database command) files library = IsValidOfDatabase command files library
 IsValid (ReadCell file) files library = IsValidFile file cell_limit library (λ bytes. refusal_of bytes ≡ None)
 IsValid (Audit file) files library = IsValidFile file tile_limit library (λ bytes. tile_refusal_of bytes ≡ None)
+IsValid Migrate files library = IsOldDatabase files
 IsValid (Convert file) files library =
     IsSomeAnd (square_named file) (λ square. IsValidFile file cell_limit library (λ bytes. hgt_refusal_of bytes ≡ None))
 IsValid (Trial count number) files library = Unit {0}

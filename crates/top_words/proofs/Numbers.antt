@@ -1,5 +1,5 @@
 -- A number's text is parsed as that number.
-use Rattle.std.proofs.Common.{◌≡◌, ℕ, ℤ, pos, negsuc, ◌^◌, ◌<◌, ◌-ℤ◌, ◌≤ℤ◌, ◌∙◌, List, Option, Some, Result, decimal, ap, arith, w16}
+use Rattle.std.proofs.Common.{◌≡◌, ℕ, ℤ, pos, negsuc, ◌^◌, ◌<◌, ◌-ℤ◌, ◌≤ℤ◌, ◌∙◌, List, Option, Some, Result, decimal, ap, arith, w16, w32, unsigned_abs, ◌≤◌}
 use Rattle.std.specs.Fmt.{signed_decimal}
 use Rattle.std.specs.Int.Signed.{mag}
 use Rattle.std.specs.Prelude.{FitsSigned}
@@ -28,3 +28,21 @@ pub height_found : {E : Type 0} (z : ℤ) (text : List ℕ) (r : Result ℤ E) (
     → ParsesSigned w16 10 text r → o ≡ result_ok r → o ≡ Some z
 height_found z text r o is e parses by =
     by ∙ ap result_ok (parse-signed_decimal w16 z text r (height_fits z is) (small_height z is.above is.below) e parses)
+
+-- ---- metres within 65535
+
+metres_fit : (z : ℤ) → unsigned_abs z ≤ 65535 → FitsSigned w32 z
+metres_fit z size = record { sfits = fits_at z size }
+  where
+    fits_at : (z : ℤ) → unsigned_abs z ≤ 65535 → mag z < 2 ^ 31
+    fits_at (pos n) size = omega (arith, size)
+    fits_at (negsuc n) size = omega (arith, size)
+
+small_metres : (z : ℤ) → unsigned_abs z ≤ 65535 → mag z < 2 ^ 63
+small_metres (pos n) size = omega (arith, size)
+small_metres (negsuc n) size = omega (arith, size)
+
+pub metres_found : {E : Type 0} (z : ℤ) (text : List ℕ) (r : Result ℤ E) (o : Option ℤ) → unsigned_abs z ≤ 65535
+    → text ≡ signed_decimal z → ParsesSigned w32 10 text r → o ≡ result_ok r → o ≡ Some z
+metres_found z text r o size e parses by =
+    by ∙ ap result_ok (parse-signed_decimal w32 z text r (metres_fit z size) (small_metres z size) e parses)

@@ -1,11 +1,15 @@
 -- What arguments are spelled as.
-use Rattle.std.specs.Prelude.{◌≡◌, ◌≤◌, ◌<◌, ◌^◌, ℕ, List, decimal}
+use Rattle.std.specs.Prelude.{◌≡◌, ◌≤◌, ◌<◌, ◌^◌, ℕ, ℤ, List, decimal, unsigned_abs}
 use Rattle.std.specs.Fmt.{signed_decimal}
 use Rattle.terrain_base.specs.declared.cell_key.CellKey.{CellKey}
 use Rattle.terrain_base.specs.declared.params.Params.{Params}
 use Rattle.terrain_base.specs.declared.tile.TileId.{TileId}
 use Rattle.terrain_base.specs.Level.{level_number}
 use Rattle.terrain_base.specs.SquareText.{square_text}
+use Rattle.mesh_query.specs.declared.spot.Spot.{Spot}
+use Rattle.mesh_query.specs.Way.{IsSpot}
+use Rattle.sight_line.specs.declared.eye.Eye.{Eye}
+use Rattle.sight_line.specs.Line.{IsEye}
 
 -- a cell's key: its square, and its level's number
 pub record IsKeyText (square_word level_word : List ℕ) (key : CellKey) : Type 0 where
@@ -29,3 +33,25 @@ pub record IsTrialText (count_word number_word : List ℕ) (counted numbered : �
   pub number : number_word ≡ decimal numbered
   pub few : counted ≤ 64
   pub small : numbered < 2 ^ 64
+
+-- a level, and a place in whole arc-seconds east of 180 degrees west and north of the south pole
+pub record IsPlaceText (level_word east_word north_word : List ℕ) (level east north : ℕ) : Type 0 where
+  pub level_is : level_word ≡ decimal level
+  pub east_is : east_word ≡ decimal east
+  pub north_is : north_word ≡ decimal north
+  pub level_in_range : level ≤ 14
+  pub east_in_range : east ≤ 1295999
+  pub north_in_range : north ≤ 648000
+
+-- a spot of the tile: u, then v
+pub record IsSpotText (u v : List ℕ) (spot : Spot) : Type 0 where
+  pub u_is : u ≡ decimal spot.u
+  pub v_is : v ≡ decimal spot.v
+  pub good : IsSpot spot
+
+-- an eye: its spot, and its height in metres
+pub record IsEyeText (u v metres : List ℕ) (eye : Eye) : Type 0 where
+  pub u_is : u ≡ decimal eye.spot.u
+  pub v_is : v ≡ decimal eye.spot.v
+  pub metres_is : metres ≡ signed_decimal eye.metres
+  pub good : IsEye eye

@@ -1,4 +1,5 @@
 pub mod Arguments
 pub mod Meant
+pub mod Questions
 pub mod Script
 pub mod Words

@@ -8,7 +8,7 @@ use Rattle.top_words.specs.declared.command.Command.TheVariants as command
 use Rattle.top_words.specs.declared.script.Line as coded_line
 use Rattle.top_words.specs.declared.script.Line.TheVariants as line
 use Rattle.top_words.specs.Script.{Line, Passed, Change as Changes, NoCommand}
-use Rattle.top_words.specs.Words.{Edit, Add, Replace, Remove, DatabaseCommand, Ask, Change, Apply, Rebuild, Check, Command, Init, Database, ReadCell, Audit, Convert, Trial}
+use Rattle.top_words.specs.Words.{Edit, Add, Replace, Remove, DatabaseCommand, Ask, Change, Apply, Rebuild, Check, Command, Init, Database, ReadCell, Audit, Migrate, Convert, Trial}
 
 abbrev pub edit_meant : coded_edit.Edit → Edit
 edit_meant (edit.Add file) = Add file.now
@@ -32,5 +32,6 @@ meant (command.Init params) = Init params
 meant (command.Database c) = Database (database_meant c)
 meant (command.Cell file) = ReadCell file.now
 meant (command.Audit file) = Audit file.now
+meant command.Migrate = Migrate
 meant (command.Convert file) = Convert file.now
 meant (command.Trial count number) = Trial count number

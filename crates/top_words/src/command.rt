@@ -1,6 +1,7 @@
 // Commands, as words ask for them.
 
 use terrain_base::{CellKey, Params, TileId};
+use tile_query::Question;
 
 /// Adding, replacing or removing a cell: a command, and a line of a script.
 #[derive(Clone, Copy, Debug)]
@@ -24,6 +25,8 @@ pub enum Query {
     Deps { tile: TileId },
     /// A tile in the form heightmap-1.0.
     Heightmap { tile: TileId },
+    /// A question about the surface of a stored tile.
+    Surface { tile: TileId, question: Question },
 }
 
 /// A command over a database, which is settled first.
@@ -55,6 +58,8 @@ pub enum Command<'a> {
     Audit {
         file: &'a str,
     },
+    /// Brings a database of an older version to this one.
+    Migrate,
     /// Gives a raster in the form HGT as a cell.
     Convert {
         file: &'a str,

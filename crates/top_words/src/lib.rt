@@ -3,6 +3,7 @@
 
 mod command;
 mod number;
+mod question;
 mod read;
 mod script;
 #[cfg(test)]

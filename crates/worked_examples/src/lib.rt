@@ -10,6 +10,8 @@ mod fault_tests;
 #[cfg(test)]
 mod files;
 #[cfg(test)]
+mod migrate_tests;
+#[cfg(test)]
 mod playing;
 #[cfg(test)]
 mod realistic_tests;
@@ -17,6 +19,8 @@ mod realistic_tests;
 mod samples;
 #[cfg(test)]
 mod state_tests;
+#[cfg(test)]
+mod surface_tests;
 #[cfg(test)]
 mod tile_tests;
 #[cfg(test)]

@@ -148,6 +148,30 @@ pub(crate) fn flat_tile(alloc: Global) -> Result<Vec<u8>, AllocError> {
     Ok(bytes)
 }
 
+// A tile of two triangles and heights from 0 metres to a greatest one, which is given by its four bytes: the number of
+// its vertices, the codes of their two coordinates and heights, and those of the triangles' corners.
+fn two_triangles(
+    alloc: Global,
+    greatest: &[u8; 4],
+    count: u8,
+    u: &[u16],
+    v: &[u16],
+    heights: &[u16],
+    corners: &[u16; 6],
+) -> Result<Vec<u8>, AllocError> {
+    let mut bytes = vec![in alloc; 0u8; 28]?;
+    bytes.extend_from_slice(greatest)?;
+    bytes.resize(88, 0)?;
+    bytes.extend_from_slice(&[count, 0, 0, 0])?;
+    words_of_16(&mut bytes, u)?;
+    words_of_16(&mut bytes, v)?;
+    words_of_16(&mut bytes, heights)?;
+    bytes.extend_from_slice(&[2, 0, 0, 0])?;
+    words_of_16(&mut bytes, corners)?;
+    words_of_16(&mut bytes, &[0; 8])?;
+    Ok(bytes)
+}
+
 // A tile of four vertices of height 0 in the corners of its square, and two triangles: the codes of the second
 // coordinate and of the triangles' corners. The first coordinate goes from 0 to 32767 and back.
 pub(crate) fn four_corners(
@@ -155,13 +179,34 @@ pub(crate) fn four_corners(
     v: &[u16; 4],
     corners: &[u16; 6],
 ) -> Result<Vec<u8>, AllocError> {
-    let mut bytes = vec![in alloc; 0u8; 88]?;
-    bytes.extend_from_slice(&[4, 0, 0, 0])?;
-    words_of_16(&mut bytes, &[0, 65534, 0, 65533])?;
-    words_of_16(&mut bytes, v)?;
-    words_of_16(&mut bytes, &[0; 4])?;
-    bytes.extend_from_slice(&[2, 0, 0, 0])?;
-    words_of_16(&mut bytes, corners)?;
-    words_of_16(&mut bytes, &[0; 8])?;
-    Ok(bytes)
+    let u: [u16; 4] = [0, 65534, 0, 65533];
+    two_triangles(alloc, &[0; 4], 4, &u, v, &[0; 4], corners)
+}
+
+// The codes of heights that rise from the west to the east, and of the corners of two triangles: on both sides of a
+// diagonal, or twice the one south-east of it.
+pub(crate) const SLOPE: [u16; 4] = [0, 65534, 0, 65533];
+
+pub(crate) const HALVES: [u16; 6] = [0, 0, 0, 3, 1, 0];
+
+pub(crate) const TWICE: [u16; 6] = [0, 0, 0, 3, 2, 1];
+
+// A tile of heights from 0 to 7 metres, the greatest code being 7 metres. Its vertices go from the south-west corner
+// counter-clockwise.
+pub(crate) fn seven_metres(
+    alloc: Global,
+    heights: &[u16; 4],
+    corners: &[u16; 6],
+) -> Result<Vec<u8>, AllocError> {
+    let u: [u16; 4] = [0, 65534, 0, 65533];
+    let v: [u16; 4] = [0, 0, 65534, 0];
+    two_triangles(alloc, &[0, 0, 0xE0, 0x40], 4, &u, &v, heights, corners)
+}
+
+// The slope, and 7 metres below it in the south-east corner a vertex of no triangle.
+pub(crate) fn slope_over_vertex(alloc: Global) -> Result<Vec<u8>, AllocError> {
+    let u: [u16; 5] = [0, 65534, 0, 65533, 65534];
+    let v: [u16; 5] = [0, 0, 65534, 0, 65533];
+    let heights: [u16; 5] = [0, 65534, 0, 65533, 0];
+    two_triangles(alloc, &[0, 0, 0xE0, 0x40], 5, &u, &v, &heights, &HALVES)
 }

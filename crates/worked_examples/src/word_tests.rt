@@ -6,7 +6,7 @@ use terrain_top::{Status, run};
 
 // What is printed where the words are no command.
 const USAGE: &str =
-    "usage: terrain DIR init CAP FILL | add FILE | replace FILE | remove SQUARE V | apply SCRIPT | rebuild | list | inspect Z X Y | deps Z X Y | cell FILE | audit FILE | check | trial COUNT NUMBER | convert FILE | heightmap Z X Y\n";
+    "usage: terrain DIR init CAP FILL | add FILE | replace FILE | remove SQUARE V | apply SCRIPT | rebuild | list | inspect Z X Y | deps Z X Y | cell FILE | audit FILE | check | trial COUNT NUMBER | migrate | convert FILE | heightmap Z X Y | height Z E N | profile Z X Y U1 V1 U2 V2 | sight Z X Y U1 V1 A1 U2 V2 A2 | view Z X Y U V A\n";
 
 #[test]
 fn words_that_are_no_command(rt: HostRuntime) -> Result<(), Stopped> {
@@ -41,8 +41,44 @@ fn words_that_are_no_command(rt: HostRuntime) -> Result<(), Stopped> {
         "audit ",
         "convert ",
         "convert a b",
-        "migrate",
+        "migrate x",
         "no",
+    ] {
+        play(
+            &rt,
+            alloc,
+            &mut store,
+            &mut files,
+            &[(line, Status::Usage, USAGE)],
+        )?;
+    }
+    Ok(())
+}
+
+#[test]
+fn words_that_are_no_question_of_a_surface(rt: HostRuntime) -> Result<(), Stopped> {
+    let alloc = rt.alloc();
+    let mut store = SureStore::new(alloc);
+    let mut files = SureLibrary::new(alloc);
+    for line in [
+        "height 15 0 0",
+        "height 0 1296000 0",
+        "height 0 0 648001",
+        "height 0 01 0",
+        "height 0 0 -0",
+        "profile 0 0 0 1 1 1 1",
+        "profile 0 0 0 1 1 32768 1",
+        "profile 15 0 0 1 1 2 2",
+        "profile 0 2 0 1 1 2 2",
+        "profile 0 0 0 1 1 2",
+        "sight 0 0 0 1 1 5 1 1 6",
+        "sight 0 0 0 1 1 65536 2 2 0",
+        "sight 0 0 0 1 1 0 2 2 -65536",
+        "sight 0 0 0 1 1 -0 2 2 0",
+        "sight 0 0 0 1 32768 0 2 2 0",
+        "view 0 0 0 1 1 00",
+        "view 0 0 0 1 1 -65536",
+        "view 0 0 0 1 1",
     ] {
         play(
             &rt,

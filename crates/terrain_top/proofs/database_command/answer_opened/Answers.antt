@@ -1,8 +1,11 @@
 use Rattle.std.proofs.Common.{refl, sym, arith}
 use Rattle.top_words.specs.Meant.{edit_meant}
+use Rattle.top_words.specs.Words.{Change, Apply, Rebuild, Check}
+use Rattle.top_reply.proofs.EachCourse.{has_opened}
+use Rattle.terrain_top.proofs.Scripts.{on_ok}
 use Rattle.top_reply.specs.Database.{rebuilt_course}
 use Rattle.top_reply.specs.Edits.{edit_course, edit_reply}
-use Rattle.terrain_top.proofs.Asked.{asked_comes}
+use Rattle.terrain_top.proofs.Asked.{asked_comes, asked_has}
 use Rattle.terrain_top.proofs.Coming.{comes_as, turn_comes}
 use Rattle.terrain_top.proofs.Whole.{edit_turns}
 use Rattle.terrain_top.proofs.database_command.answer_opened.Goals as goal
@@ -30,3 +33,23 @@ returns-in-Rebuild-clause-comes g c = λ s held library course h is tells of.
 pub returns-in-Check-clause-comes : goal.returns-in-Check-clause-comes
 returns-in-Check-clause-comes g c = λ s held library course h is tells of.
     turn_comes course _ _ c.answer_to_check.result (c.answer_to_check.ensures.goes s held course h is (rw c.in-Check.is at of)) refl
+
+pub returns-in-Ask-clause-has : goal.returns-in-Ask-clause-has
+returns-in-Ask-clause-has g c = λ s held library h is.
+    rw c.in-Ask.is (asked_has c.in-Ask.query s held library c.answer_to_query.result (c.answer_to_query.ensures.has s held h is))
+
+pub returns-in-Change-clause-has : goal.returns-in-Change-clause-has
+returns-in-Change-clause-has g c = λ s held library h is.
+    rw c.in-Change.is (on_ok c.answer_to_edit.result (has_opened (Change (edit_meant c.in-Change.edit)) library s held refl))
+
+pub returns-in-Apply-clause-has : goal.returns-in-Apply-clause-has
+returns-in-Apply-clause-has g c = λ s held library h is.
+    rw c.in-Apply.is (on_ok c.answer_to_apply.result (has_opened (Apply c.in-Apply.script.now) library s held refl))
+
+pub returns-in-Rebuild-clause-has : goal.returns-in-Rebuild-clause-has
+returns-in-Rebuild-clause-has g c = λ s held library h is.
+    rw c.in-Rebuild.is (on_ok c.answer_to_rebuild.result (has_opened Rebuild library s held refl))
+
+pub returns-in-Check-clause-has : goal.returns-in-Check-clause-has
+returns-in-Check-clause-has g c = λ s held library h is.
+    rw c.in-Check.is (on_ok c.answer_to_check.result (has_opened Check library s held refl))

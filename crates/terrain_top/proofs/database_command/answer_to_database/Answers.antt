@@ -1,8 +1,6 @@
 use Rattle.std.proofs.Common.{refl}
 use Rattle.top_words.specs.Meant.{database_meant}
 use Rattle.top_reply.specs.Course.{world}
-use Rattle.top_reply.proofs.EachCourse.{has_opened}
-use Rattle.terrain_top.proofs.Scripts.{on_ok}
 use Rattle.terrain_top.proofs.Settled.{settled, settled_told, not_settled, not_settled_told}
 use Rattle.terrain_top.proofs.database_command.answer_to_database.Goals as goal
 
@@ -15,7 +13,7 @@ pub returns-in-Ok-clause-told : goal.returns-in-Ok-clause-told
 returns-in-Ok-clause-told g c = λ held library is tells.
     settled_told (database_meant c.args.command.now) library held _ _ _ is c.in-Ok.opened c.answer_opened.result (c.in-Ok.ensures.opened held is) (λ s m reads. (c.in-Ok.ensures.ran held s m is reads).ok)
     (λ s m reads. c.in-Ok.ensures.few held s m is reads) refl (λ s files rest h files_is asked. c.answer_opened.ensures.comes s files library rest h files_is tells asked)
-    (λ s files. on_ok c.answer_opened.result (has_opened (database_meant c.args.command.now) library s files))
+    (λ s files h files_is. c.answer_opened.ensures.has s files library h files_is)
 
 pub returns-in-Err-clause-comes : goal.returns-in-Err-clause-comes
 returns-in-Err-clause-comes g c = λ held library opening course is tells opens of.

@@ -5,7 +5,7 @@ use Rattle.top_reply.specs.Cell.{cell_reply}
 use Rattle.top_reply.specs.Convert.{convert_reply}
 use Rattle.top_reply.specs.Database.{init_course}
 use Rattle.terrain_top.proofs.Coming.{comes_as, turn_comes}
-use Rattle.terrain_top.proofs.Commands.{audit_comes, read_comes, some_cell_reply, some_convert_reply, told_cell, told_convert, told_audit, told_init, told_trial, told_database}
+use Rattle.terrain_top.proofs.Commands.{audit_comes, read_comes, some_cell_reply, some_convert_reply, told_cell, told_convert, told_audit, told_init, told_migrate, told_trial, told_database}
 use Rattle.terrain_top.proofs.top.answer_to.Goals as goal
 
 pub returns-in-Init-clause-comes : goal.returns-in-Init-clause-comes
@@ -39,6 +39,15 @@ returns-in-Audit-clause-comes g c = rw c.in-Audit.is (λ course of.
 pub returns-in-Audit-clause-told : goal.returns-in-Audit-clause-told
 returns-in-Audit-clause-told g c = rw c.in-Audit.is (λ held library store files.
     told_audit c.in-Audit.file.now (g.St.Store.holds c.args.store.now) (g.Li.Library.holds c.args.files.now) held library c.answer_to_audit.result files c.answer_to_audit.ensures.says)
+
+pub returns-in-Migrate-clause-comes : goal.returns-in-Migrate-clause-comes
+returns-in-Migrate-clause-comes g c = rw c.in-Migrate.is (λ course of.
+    turn_comes course _ _ c.answer_to_migrate.result (c.answer_to_migrate.ensures.goes of.files course of.store_tells of.is) refl)
+
+pub returns-in-Migrate-clause-told : goal.returns-in-Migrate-clause-told
+returns-in-Migrate-clause-told g c = rw c.in-Migrate.is (λ held library store files.
+    told_migrate (g.St.Store.holds c.args.store.now) (g.Li.Library.holds c.args.files.now) held library c.answer_to_migrate.result store
+    (c.answer_to_migrate.ensures.has held store))
 
 pub returns-in-Convert-clause-comes : goal.returns-in-Convert-clause-comes
 returns-in-Convert-clause-comes g c = rw c.in-Convert.is (λ course of.

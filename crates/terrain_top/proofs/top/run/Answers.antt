@@ -15,6 +15,7 @@ returns-clause-usage g c = λ answer.
 pub returns-clause-headline : goal.returns-clause-headline
 returns-clause-headline g c = λ meaning is.
     headline c.files_are_good.ensures meaning _ _ _ _ c.run_meant.result refl (meant_goes meaning _ _ _ _ _ c.run_meant.result (c.command_of.ensures.one meaning is) c.run_meant.ensures.replies)
+    (λ held library store files answers. meant_has meaning _ _ _ held library c.run_meant.result (c.command_of.ensures.one meaning is) c.run_meant.ensures.told store files answers)
 
 pub returns-clause-stops : goal.returns-clause-stops
 returns-clause-stops g c = λ meaning is.
