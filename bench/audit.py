@@ -34,14 +34,18 @@ def grid_triangles(side):
             yield south_west, north_east, north_west
 
 
-def tile(side, place):
-    """The bytes of a tile of grid points, whose u, v and height `place(column, row)` gives."""
+def tile(side, place, greatest=0):
+    """The bytes of a tile of grid points, whose u, v and height `place(column, row)` gives.
+
+    The height 32767 stands for the greatest one in metres, 0 for 0 m.
+    """
     triangles = list(grid_triangles(side))
     order = {}
     for triangle in triangles:
         for point in triangle:
             order.setdefault(point, len(order))
-    return meshes.tile([place(*point) for point in order], [tuple(order[point] for point in triangle) for triangle in triangles])
+    vertices = [place(*point) for point in order]
+    return meshes.tile(vertices, [tuple(order[point] for point in triangle) for triangle in triangles], 0, greatest)
 
 
 def even(side):

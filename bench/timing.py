@@ -41,23 +41,35 @@ def told(output):
     return output.decode().strip().replace("\n", ", ") if len(output) < 1000 else f"{len(output)} bytes"
 
 
-def compare(title, command, path, peer):
-    """Prints the best of the runs of a command on a file, and of a peer's, run by run in turn."""
+def in_turn(words, peer):
+    """The least seconds of the program on these words and of a peer, run by run in turn, the greatest memory, and the output.
+
+    Both must print the same. Without a peer, its seconds are None.
+    """
     program = built()
-    size = path.stat().st_size / 1e6
-    ours, theirs = [], []
+    ours, theirs, most = [], [], 0
     for _ in range(RUNS):
-        seconds, said, memory = timed([program, ".", command, path])
+        seconds, said, memory = timed([program, *words])
         ours.append(seconds)
+        most = max(most, memory)
         if peer:
-            seconds, other, _ = timed([*peer, ".", command, path])
+            seconds, other, _ = timed([*peer, *words])
             theirs.append(seconds)
             if other != said:
                 sys.exit(f"the peer prints {told(other)!r} where this prints {told(said)!r}")
-    line = f"{title}: {min(ours):.3f} s, {size / min(ours):.0f} MB/s, {memory:.1f} MB of memory"
-    if theirs:
-        line += f", peer {min(theirs):.3f} s, ratio {min(ours) / min(theirs):.2f}"
-    print(line)
+    return min(ours), min(theirs, default=None), most, said
+
+
+def beside(seconds, peer):
+    """A peer's seconds, and the ratio to them."""
+    return "" if peer is None else f", peer {peer:.3f} s, ratio {seconds / peer:.2f}"
+
+
+def compare(title, command, path, peer):
+    """Prints the best of the runs of a command on a file, and of a peer's, run by run in turn."""
+    size = path.stat().st_size / 1e6
+    seconds, theirs, memory, said = in_turn([".", command, path], peer)
+    print(f"{title}: {seconds:.3f} s, {size / seconds:.0f} MB/s, {memory:.1f} MB of memory{beside(seconds, theirs)}")
     print(f"  {told(said)}")
 
 

@@ -1,6 +1,7 @@
-"""Tiles of quantized-mesh-1.0 for the checks, from vertices and triangles; their headers are all zeros."""
+"""Tiles of quantized-mesh-1.0 for the checks, from vertices and triangles; headers are zeros but for the heights."""
 
 import array
+import struct
 
 import cells
 
@@ -28,10 +29,13 @@ def high_water(indexes):
     return codes
 
 
-def tile(vertices, triangles):
-    """The bytes of a tile of vertices (u, v, height), each an index's first use in their order, and triangles."""
+def tile(vertices, triangles, least=0, greatest=0):
+    """The bytes of a tile of vertices (u, v, height), each an index's first use in their order, and triangles.
+
+    A height is from 0 to 32767, and stands for one between the least and the greatest height in metres.
+    """
     number = array.array("I" if len(vertices) > 65536 else "H")
-    out = bytes(88) + len(vertices).to_bytes(4, "little")
+    out = bytes(24) + struct.pack("<ff", least, greatest) + bytes(56) + len(vertices).to_bytes(4, "little")
     out += b"".join(differences([vertex[k] for vertex in vertices]) for k in range(3))
     out += bytes(-len(out) % number.itemsize)
     out += len(triangles).to_bytes(4, "little")

@@ -7,6 +7,8 @@ import array
 
 import cells
 import meshes
+import migrations
+import surfaces
 
 FLAT = "n00e000"
 
@@ -383,5 +385,6 @@ SCENARIOS = (
     realistic_cell, script, no_good_database, lost_tiles, spoilt_tile, audits, audits_of_many, checked, converted, heightmaps,
     dropped_halfway, put_halfway, rebuilt_halfway,
     refused_edits, full_database, trials, void_cell, far_cell, two_levels,
+    *migrations.SCENARIOS, *surfaces.SCENARIOS,
     *(edits_of(number) for number in range(12)), forty_commands,
 )

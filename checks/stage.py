@@ -56,6 +56,15 @@ class Stage:
         self.said.append([" ".join(words), done.returncode, f"{len(done.stdout)} bytes {digest}"])
         return done
 
+    def answer(self, *words):
+        """One command: as with `run`, but of a long text its first line, its length and its SHA-256 are kept."""
+        done = self.call(*words)
+        text = done.stdout.decode("utf-8", "replace")
+        if len(text) > 300:
+            text = f"{text.splitlines()[0]}, {len(text)} bytes {hashlib.sha256(done.stdout).hexdigest()}"
+        self.said.append([" ".join(words), done.returncode, text])
+        return done
+
     def files(self):
         """The files of the database: names, lengths and SHA-256, in the order of names."""
         paths = sorted(path for path in self.database.rglob("*") if path.is_file())

@@ -4,8 +4,9 @@
 usage: checks/stops.py
 
 Each such call is failed with EIO and with ENOSPC, and the program is killed before it, by `strace`. Afterwards `list`
-must answer 0, and the folder must hold exactly the files of before or those of after the command. A half-written file
-beside its name may be left where nothing was written again; it is no name of a database.
+must answer 0, and the folder must hold exactly the files of before or those of after the command. Where a migration was
+stopped and the database is still of an older version, `migrate` stands for `list`; the files must be those of after it.
+A half-written file beside its name may be left where nothing was written again; it is no name of a database.
 """
 
 import collections
@@ -17,13 +18,35 @@ import sys
 import tempfile
 
 import cells
+import old
 import stage
 
 CALLS = "rename,renameat,renameat2,unlink,unlinkat"
 FAULTS = ("error=EIO", "error=ENOSPC", "error=EIO:signal=KILL")
 HALF_WRITTEN = ".new"
 
-# each command with what was done before it
+
+
+def old_first(at):
+    """A database of version 1 in the midst of a replacement, with a tile that goes."""
+    at.write("db/manifest.txt", old.manifest(1, 2, 0, "put n00e000", "n00e000"))
+    at.write("db/cells/n00e000.dt", (at.folder / "flat.dt0").read_bytes())
+    at.write("db/stage.dt", (at.folder / "seven.dt0").read_bytes())
+    at.write("db/0/0/0.terrain", b"old")
+    at.write("db/2/1/1.txt", b"extra")
+
+
+def old_second(at):
+    """A database of version 2 in the midst of a replacement of one of two cells, and with a cell that is of no row."""
+    at.write("db/manifest.txt", old.manifest(2, 2, 0, "put n00e000 0", "n00e000 0", "n00e001 0"))
+    at.write("db/cells/n00e000.0.dt", (at.folder / "flat.dt0").read_bytes())
+    at.write("db/cells/n00e001.0.dt", cells.flat(0, "n00e001"))
+    at.write("db/cells/n00e000.1.dt", b"extra")
+    at.write("db/stage.dt", (at.folder / "seven.dt0").read_bytes())
+    at.write("db/0/0/0.txt", b"old")
+
+
+# each command with what was done before it: commands, or files that were laid down
 COMMANDS = {
     "init": ([], ["init", "3", "0"]),
     "add": ([["init", "3", "0"]], ["add", "flat.dt0"]),
@@ -31,6 +54,8 @@ COMMANDS = {
     "remove": ([["init", "3", "0"], ["add", "flat.dt0"]], ["remove", "n00e000", "0"]),
     "rebuild": ([["init", "3", "0"], ["add", "flat.dt0"]], ["rebuild"]),
     "apply": ([["init", "2", "0"]], ["apply", "lines"]),
+    "migrate, from version 1": (old_first, ["migrate"]),
+    "migrate, from version 2": (old_second, ["migrate"]),
 }
 
 
@@ -68,8 +93,11 @@ def held(folder):
 
 
 def states_passed(base, words):
-    """The files after no line of the command, and after each line of a script; of another command before and after it."""
-    states = [held(base)]
+    """The files after no line of the command, and after each line of a script; of another command before and after it.
+
+    A migration is done again where it was stopped, so it passes the files of after it alone.
+    """
+    states = [] if words == ["migrate"] else [held(base)]
     with tempfile.TemporaryDirectory() as folder:
         copy = pathlib.Path(folder) / "copy"
         shutil.copytree(base, copy)
@@ -90,11 +118,13 @@ def tried(base, words, states, fault, call, number):
         killed = "KILL" in fault
         if not killed and status != 4:
             return f"status {status} where a store's call failed"
-        listing = stage.Stage([stage.PROGRAM], copy).run("list")
+        at = stage.Stage([stage.PROGRAM], copy)
+        is_old = words == ["migrate"] and not (at.database / "manifest.txt").read_bytes().startswith(b"terrain-db 3\n")
+        listing = at.run("migrate" if is_old else "list")
         if words[0] == "init" and listing.stdout.startswith(b"refused K5 not a database line 0"):
             return None if held(copy) == [] else "an interrupted init left files and no manifest"
         if listing.returncode != 0:
-            return f"list answers {listing.returncode} {listing.stdout!r}"
+            return f"{'migrate' if is_old else 'list'} answers {listing.returncode} {listing.stdout!r}"
         return None if held(copy) in states else "the files are those of no state that the command passes"
 
 
@@ -111,8 +141,14 @@ def main():
             base = pathlib.Path(folder) / "base"
             base.mkdir()
             at = prepare(base)
-            for step in before:
-                at.run(*step)
+            if words[0] not in at.commands:
+                print(f"stops of {name}: skipped, the program has no command {words[0]} yet")
+                continue
+            if callable(before):
+                before(at)
+            else:
+                for step in before:
+                    at.run(*step)
             states = states_passed(base, words)
             copy = pathlib.Path(folder) / "counted"
             shutil.copytree(base, copy)

@@ -11,9 +11,35 @@ import sys
 import tempfile
 
 import cells
+import old
 import stage
 
-USAGE = b"usage: terrain DIR "
+USAGE = (
+    b"usage: terrain DIR init CAP FILL | add FILE | replace FILE | remove SQUARE V | apply SCRIPT | rebuild | list"
+    b" | inspect Z X Y | deps Z X Y | cell FILE | audit FILE | check | trial COUNT NUMBER | migrate | convert FILE"
+    b" | heightmap Z X Y | height Z E N | profile Z X Y U1 V1 U2 V2 | sight Z X Y U1 V1 A1 U2 V2 A2"
+    b" | view Z X Y U V A\n"
+)
+
+# words behind the folder that are no migration and no question of a surface, parted by single blanks
+NO_QUESTIONS = (
+    "migrate x", "migrate ",
+    "height 0 0", "height 0 0 0 0", "height 15 0 0", "height 0 1296000 0", "height 0 0 648001", "height 0 -1 0",
+    "height 00 0 0", "height 0 01 0", "height 0 0 -0", "height 0 +1 0", "height 0 1e3 0",
+    "height 0 18446744073709551616 0", "height  0 0", "Height 0 0 0",
+    "profile 0 0 0 1 1 1 1", "profile 0 0 0 1 1 32768 1", "profile 0 0 0 32768 1 1 1", "profile 0 0 0 1 32768 1 1",
+    "profile 0 0 0 1 1 1 32768", "profile 0 2 0 1 1 2 2", "profile 0 0 1 1 1 2 2", "profile 15 0 0 1 1 2 2",
+    "profile 0 0 0 1 1 2", "profile 0 0 0 1 1 2 2 2", "profile 0 0 0 01 1 2 2", "profile 0 0 0 1 -0 2 2",
+    "profile 0 0 0 1 1 2 -1", "profile 0 0 0 65536 1 2 1",
+    "sight 0 0 0 1 1 5 1 1 6", "sight 0 0 0 1 1 65536 2 2 0", "sight 0 0 0 1 1 0 2 2 -65536",
+    "sight 0 0 0 1 1 -0 2 2 0", "sight 0 0 0 1 1 00 2 2 0", "sight 0 0 0 1 1 +7 2 2 0", "sight 0 0 0 1 1 0 2 2",
+    "sight 0 0 0 1 1 0 2 2 0 0", "sight 0 0 0 32768 1 0 2 2 0", "sight 0 0 0 1 1 0 2 32768 0",
+    "sight 15 0 0 1 1 0 2 2 0", "sight 0 0 1 1 1 0 2 2 0", "sight 0 0 0 1 1 -07 2 2 0", "sight 0 0 0 1 1 - 2 2 0",
+    "sight 0 0 0 1 1 4294967296 2 2 0",
+    "view 0 0 0 1 1", "view 0 0 0 1 1 0 0", "view 0 0 0 32768 1 0", "view 0 0 0 1 32768 0", "view 0 0 0 1 1 65536",
+    "view 0 0 0 1 1 -65536", "view 0 0 0 1 1 -0", "view 0 2 0 1 1 0", "view 15 0 0 1 1 0", "view 0 0 0 1 01 0",
+    "view 0 0 0 1 1 ",
+)
 
 
 def said(folder, *words, **named):
@@ -26,8 +52,13 @@ def usage_lines(folder):
     for words in ([], ["db"], ["db", "init", "15", "0"], ["db", "init", "9", "-0"], ["db", "init", "09", "0"], ["db", "add"], ["db", "add", ""],
                   ["db", "remove", "n0e0", "0"], ["db", "remove", "n00e000", "3"], ["db", "inspect", "0", "2", "0"], ["db", "trial", "65", "1"],
                   ["db", "list", "x"], [b"db", b"cell", b"\xff"]):
-        status, out, err = said(folder, *words)
-        yield f"words {words}", status == 2 and out.startswith(USAGE) and out.endswith(b"\n") and err == b""
+        yield f"words {words}", said(folder, *words) == (2, USAGE, b"")
+
+
+def questions(folder):
+    """Words that are nearly a migration or a question of a surface print the usage line."""
+    for line in NO_QUESTIONS:
+        yield f"words {line}", said(folder, "db", *line.split(" ")) == (2, USAGE, b"")
 
 
 def cell_files(folder):
@@ -100,11 +131,19 @@ def full_output(folder):
 def output_faults(folder):
     """An output that takes nothing leaves what was done."""
     (folder / "flat.dt0").write_bytes(cells.flat(0, "n00e000"))
+    (folder / "older/cells").mkdir(parents=True)
+    (folder / "older/cells/n00e000.0.dt").write_bytes(cells.flat(0, "n00e000"))
+    (folder / "older/manifest.txt").write_bytes(old.manifest(2, 9, 0, "closed", "n00e000 0"))
+    none, one = b"cap 9 fill 0 cells 0\n", b"cap 9 fill 0 cells 1\n"
     with open("/dev/full", "wb") as full:
-        for words, listing in ((["init", "9", "0"], b"cap 9 fill 0 cells 0\n"), (["add", "flat.dt0"], b"cap 9 fill 0 cells 1\n")):
-            done = subprocess.run([str(stage.PROGRAM), "full", *words], cwd=folder, stdout=full, stderr=subprocess.PIPE, check=False)
+        for database, words, listing in (
+            ("full", ["init", "9", "0"], none), ("full", ["add", "flat.dt0"], one), ("older", ["migrate"], one),
+            ("older", ["height", "0", "0", "0"], one),
+        ):
+            command = [str(stage.PROGRAM), database, *words]
+            done = subprocess.run(command, cwd=folder, stdout=full, stderr=subprocess.PIPE, check=False)
             yield f"{words[0]} to a full output", done.returncode == 5
-            yield f"{words[0]} is done", said(folder, "full", "list")[1].startswith(listing)
+            yield f"{words[0]} is done", said(folder, database, "list")[1].startswith(listing)
 
 
 def store_faults(folder):
@@ -122,7 +161,7 @@ def store_faults(folder):
 
 def main():
     failed = 0
-    checks = [usage_lines, cell_files, cell_refusals, tile_refusals, full_output]
+    checks = [usage_lines, questions, cell_files, cell_refusals, tile_refusals, full_output]
     if "init" in stage.commands_of([stage.PROGRAM]):
         checks += [output_faults, store_faults]
     for check in checks:
