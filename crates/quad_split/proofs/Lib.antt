@@ -11,3 +11,4 @@ pub mod Nearby
 pub mod LeafTriangles
 pub mod Windows
 pub mod PointTests
+pub mod Smallest

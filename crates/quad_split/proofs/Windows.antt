@@ -1,5 +1,5 @@
 -- What a triangle over grid points holds lies in the window of its corners.
-use Rattle.std.proofs.Common.{ℕ, ◌+◌, ◌-◌, ◌≤◌, ◌≡◌, refl, arith, List}
+use Rattle.std.proofs.Common.{ℕ, ◌+◌, ◌-◌, ◌≤◌, ◌≡◌, arith, List}
 use Rattle.std.specs.Prelude.{ℤ, pos, ◌≤ℤ◌}
 use Rattle.std.proofs.lemmas.Int.{ints}
 use Rattle.terrain_base.specs.Grid.{height_in}
@@ -10,7 +10,7 @@ use Rattle.mesh_plane.specs.Plane.{point, IsOnTile, IsCounterClockwise}
 use Rattle.mesh_plane.specs.SurfaceLaw.{IsTriIn}
 use Rattle.mesh_plane.proofs.SurfaceLaws.{surface_law}
 use Rattle.quad_split.specs.Fits.{HoldsPoint, follows_rows, follows}
-use Rattle.quad_split.specs.Window.{IsInWindow, IsOnGrid, IsTriOf, IsWindow, corner_at, tri_at}
+use Rattle.quad_split.specs.Window.{IsInWindow, IsOnGrid, IsTriOf, IsWindow, corner_at, grid_point, tri_at}
 use Rattle.quad_split.specs.declared.triangle.GridPoint.{GridPoint}
 use Rattle.quad_split.specs.declared.triangle.Window.{Window}
 use Rattle.quad_split.proofs.FanTriangles.{place, back}
@@ -19,7 +19,7 @@ use Rattle.quad_split.proofs.Meanings.{same_value, square_test, all_test}
 forth : (i j : ℕ) → i ≤ j → place i ≤ℤ place j
 forth i j h = omega (arith, ints)
 
-on_tile : (heights : List ℤ) (p : GridPoint) → IsOnGrid p → IsOnTile (corner_at heights p)
+pub on_tile : (heights : List ℤ) (p : GridPoint) → IsOnGrid p → IsOnTile (corner_at heights p)
 on_tile heights p h = record {
   west = omega (arith, ints);
   east = omega (arith, ints, h.column);
@@ -51,6 +51,15 @@ module _ (heights : List ℤ) (window : Window) (a b c : GridPoint) (in_a : IsIn
       record { a = in_box window a in_a; b = in_box window b in_b; c = in_box window c in_c } in
       surface_law.box (box window) (tri_at heights a b c) (pos 1) (place i) (place j) ccw corners h
 
+  pub is_within : (i j : ℕ) → HoldsPoint (tri_at heights a b c) i j → IsInWindow window (grid_point i j)
+  is_within i j h =
+      let r = held i j h in record {
+        west = back window.west i (omega (arith, ints, r.west));
+        east = back i window.east (omega (arith, ints, r.east));
+        south = back window.south j (omega (arith, ints, r.south));
+        north = back j window.north (omega (arith, ints, r.north));
+      }
+
   pub is_in_window : IsOnGrid a → IsOnGrid b → IsOnGrid c → IsHeight (height_in heights a.i a.j)
       → IsHeight (height_in heights b.i b.j) → IsHeight (height_in heights c.i c.j)
       → IsTriOf window (tri_at heights a b c)
@@ -58,10 +67,10 @@ module _ (heights : List ℤ) (window : Window) (a b c : GridPoint) (in_a : IsIn
     tile = record { a = on_tile heights a on_a; b = on_tile heights b on_b; c = on_tile heights c on_c };
     heights = record { a = high_a; b = high_b; c = high_c };
     counter_clockwise = ccw;
-    west = λ i j f g h. back window.west i (let r = (held i j h).west in omega (arith, ints, r));
-    east = λ i j f g h. back i window.east (let r = (held i j h).east in omega (arith, ints, r));
-    south = λ i j f g h. back window.south j (let r = (held i j h).south in omega (arith, ints, r));
-    north = λ i j f g h. back j window.north (let r = (held i j h).north in omega (arith, ints, r));
+    west = λ i j f g h. (is_within i j h).west;
+    east = λ i j f g h. (is_within i j h).east;
+    south = λ i j f g h. (is_within i j h).south;
+    north = λ i j f g h. (is_within i j h).north;
   }
 
 -- a triangle that holds no grid point outside the window follows all where it follows those in the window

@@ -8,7 +8,7 @@ use Rattle.mesh_plane.specs.Plane.{IsTileTri, IsCounterClockwise}
 use Rattle.mesh_plane.specs.Triangles.{tri_of}
 use Rattle.mesh_plane.specs.Quadtree.{line_of}
 use Rattle.quad_split.specs.Fan.{corner_of, side_triangles}
-use Rattle.quad_split.specs.Fits.{HoldsPoint, follows}
+use Rattle.quad_split.specs.Fits.{HoldsPoint, follows, follows_at}
 use Rattle.quad_split.specs.declared.triangle.GridPoint.{GridPoint}
 use Rattle.quad_split.specs.declared.triangle.Window.{Window}
 use Rattle.quad_split.specs.declared.fan.Side.{Side}
@@ -86,6 +86,16 @@ abbrev pub sides_follow : List ℤ → ℕ → Fan → Bool
 sides_follow grid tol fan =
     side_follows grid tol fan.south
     && (side_follows grid tol fan.east && (side_follows grid tol fan.north && side_follows grid tol fan.west))
+
+-- the triangle of a whole side follows the height at the side's midpoint, and those of all four sides
+abbrev pub middle_follows : List ℤ → ℕ → Side → Bool
+middle_follows grid tol side =
+    follows_at grid tol (tri_at grid side.centre side.a side.b) side.middle.i side.middle.j
+
+abbrev pub middles_follow : List ℤ → ℕ → Fan → Bool
+middles_follow grid tol fan =
+    middle_follows grid tol fan.south
+    && (middle_follows grid tol fan.east && (middle_follows grid tol fan.north && middle_follows grid tol fan.west))
 
 abbrev pub grid_point : ℕ → ℕ → GridPoint
 grid_point i j = record { i = i; j = j }

@@ -2,10 +2,10 @@
 
 ghost use Rattle.std.specs.Prelude.{◌≡◌, ◌-◌, ◌≤◌};
 ghost use Rattle.quad_split.specs.Node.{IsNode, level_of, column_of, row_of};
-ghost use Rattle.quad_split.specs.Window.{IsSideOf, AreSidesOf, fan_at, side_follows, sides_follow};
+ghost use Rattle.quad_split.specs.Window.{IsSideOf, AreSidesOf, fan_at, middle_follows, middles_follow, side_follows, sides_follow};
 
 use crate::node::Node;
-use crate::triangle::{GridPoint, triangle_follows};
+use crate::triangle::{GridPoint, point_follows, triangle_follows};
 use terrain_base::Grid;
 
 /// The centre of a node, a side from `a` to `b`, and its midpoint.
@@ -45,6 +45,26 @@ pub(crate) fn fan_follows(grid: &Grid, tol: u16, fan: &Fan) -> bool
         && one_follows(grid, tol, fan.east)
         && one_follows(grid, tol, fan.north)
         && one_follows(grid, tol, fan.west)
+}
+
+/// Whether the triangle of the whole side follows the height at the side's midpoint.
+fn middle_follows(grid: &Grid, tol: u16, side: Side) -> bool
+    requires { IsSideOf grid.now side }
+    ensures { result ≡ middle_follows grid.now tol side }
+{
+    point_follows(grid, tol, side.centre, side.a, side.b, side.middle)
+}
+
+/// Whether those of all four sides do. The triangles of a node of side 2 hold no other grid points but their
+/// corners, where a plane has the grid's own height.
+pub(crate) fn middles_follow(grid: &Grid, tol: u16, fan: &Fan) -> bool
+    requires { AreSidesOf grid.now fan.now }
+    ensures { result ≡ middles_follow grid.now tol fan.now }
+{
+    middle_follows(grid, tol, fan.south)
+        && middle_follows(grid, tol, fan.east)
+        && middle_follows(grid, tol, fan.north)
+        && middle_follows(grid, tol, fan.west)
 }
 
 /// The sides of the node.

@@ -4,7 +4,7 @@ ghost use Rattle.std.specs.Prelude.{◌≡◌, ◌↔◌, ℕ, suc, ◌≤◌, I
 ghost use Rattle.quad_split.specs.Node.{IsNode, level_of, column_of, row_of};
 ghost use Rattle.quad_split.specs.Fits.{Fits, fits_at};
 
-use crate::fan::{fan_follows, fan_of};
+use crate::fan::{fan_follows, fan_of, middles_follow};
 use crate::node::Node;
 use terrain_base::Grid;
 
@@ -21,5 +21,9 @@ pub fn fits(grid: &Grid, node: &Node, tol: u16) -> bool
     ensures meaning { (k : ℕ) → level_of node.now.side ≡ suc k →
         IsTrue result ↔ Fits grid.now tol k (column_of node.now) (row_of node.now) }
 {
-    fan_follows(grid, tol, &fan_of(node))
+    let fan = fan_of(node);
+    if node.side == 2 {
+        return middles_follow(grid, tol, &fan);
+    }
+    fan_follows(grid, tol, &fan)
 }

@@ -210,3 +210,27 @@ pub(crate) fn triangle_follows(
     };
     follows_window(grid, tol, window_of(a, b, c), &tri)
 }
+
+/// Whether the triangle of three grid points doesn't hold the grid point `at`, or its plane is within the tolerance of
+/// the height there.
+pub(crate) fn point_follows(
+    grid: &Grid,
+    tol: u16,
+    a: GridPoint,
+    b: GridPoint,
+    c: GridPoint,
+    at: GridPoint,
+) -> bool
+    requires a { IsOnGrid a }
+    requires b { IsOnGrid b }
+    requires c { IsOnGrid c }
+    requires at { IsOnGrid at }
+    ensures { result ≡ follows_at grid.now tol (tri_at grid.now a b c) at.i at.j }
+{
+    let tri = Tri {
+        a: corner(grid, a),
+        b: corner(grid, b),
+        c: corner(grid, c),
+    };
+    follows_point(grid, tol, &tri, at.i, at.j)
+}
