@@ -1,7 +1,7 @@
 #!/usr/bin/env python3
 """Times `audit` on three tiles, best of five.
 
-usage: bench/audit.py [PEER WORD..]
+usage: bench/audit.py [PEER ARGUMENT..]
 
 - the densest tile of this program: all 4489 points of a grid of 67 by 67, with 8712 triangles
 - an irregular mesh of 4096 vertices: a grid of 64 by 64 points, of which none inside shares its u or v with another
@@ -11,15 +11,9 @@ Prints the seconds and megabytes a second of `./terrain . audit FILE`, and the g
 command line, it times that too, run by run in turn, and prints the ratio. Both must print the same.
 """
 
-import pathlib
-import sys
-import tempfile
-
 import timing
 
-sys.path.insert(0, str(timing.ROOT / "checks"))
-
-import meshes  # noqa: E402
+import meshes
 
 LAST = 32767
 
@@ -66,17 +60,16 @@ def uneven(side):
     return place
 
 
-def main():
-    with tempfile.TemporaryDirectory() as folder:
-        for title, content in (
-            ("the densest tile", lambda: tile(67, even(67))),
-            ("4096 vertices, none inside in another's row", lambda: tile(64, uneven(64))),
-            ("65536 vertices", lambda: tile(256, even(256))),
-        ):
-            path = pathlib.Path(folder) / "tile.terrain"
-            path.write_bytes(content())
-            timing.compare(title, "audit", path, sys.argv[1:])
+def trials(files, _):
+    for number, (title, content) in enumerate((
+        ("the densest tile (4489 vertices, 8712 triangles)", lambda: tile(67, even(67))),
+        ("4096 vertices, none inside in another's row", lambda: tile(64, uneven(64))),
+        ("65536 vertices, too many to be looked at", lambda: tile(256, even(256))),
+    )):
+        path = files / f"{number}.terrain"
+        path.write_bytes(content())
+        yield timing.Trial(f"`audit` on {title}", ("audit", path), size=path.stat().st_size)
 
 
 if __name__ == "__main__":
-    main()
+    timing.show(trials)

@@ -1,16 +1,13 @@
 #!/usr/bin/env python3
 """Times `convert` on a raster of 3601 lines, best of five.
 
-usage: bench/convert.py [PEER WORD..]
+usage: bench/convert.py [PEER ARGUMENT..]
 
 Prints the seconds of `./terrain . convert N46E007.hgt`, the megabytes read a second, and the greatest memory of a run.
 Given a PEER's command line, it times that too, run by run in turn, and prints the ratio. Both must print the same.
 """
 
 import array
-import pathlib
-import sys
-import tempfile
 
 import timing
 
@@ -24,12 +21,11 @@ def raster():
     return samples.tobytes()
 
 
-def main():
-    with tempfile.TemporaryDirectory() as folder:
-        path = pathlib.Path(folder) / "N46E007.hgt"
-        path.write_bytes(raster())
-        timing.compare("3601 lines", "convert", path, sys.argv[1:])
+def trials(files, _):
+    path = files / "N46E007.hgt"
+    path.write_bytes(raster())
+    yield timing.Trial("`convert` of a raster of 3601 lines", ("convert", path), size=path.stat().st_size)
 
 
 if __name__ == "__main__":
-    main()
+    timing.show(trials)

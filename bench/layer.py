@@ -3,9 +3,9 @@
 
 usage: bench/layer.py
 
-The layers are those of 0, 1, 40 and 300 scattered cells, to level 14. Each is compact JSON with its keys ascending; the keys and
-values are those of TileJSON 2.1.0 and of a quantized-mesh terrain layer; and the runs of levels 0 to 8 are those of the tiles
-that overlap a cell, found here tile by tile.
+The layers are those of 0, 1, 40 and 300 scattered cells, to level 14. Each is compact JSON with its keys ascending;
+the keys and values are those of TileJSON 2.1.0 and of a quantized-mesh terrain layer; and the runs of levels 0 to 8 are
+those of the tiles that overlap a cell, found here tile by tile.
 """
 
 import json

@@ -1,21 +1,17 @@
 #!/usr/bin/env python3
 """Times questions about the surface of a stored tile, best of five.
 
-usage: bench/surface.py [PEER WORD..]
+usage: bench/surface.py [PEER ARGUMENT..]
 
 The tile is the densest of this program, all 4489 points of a grid of 67 by 67, with 8712 triangles. It is
 
 - flat, so that all of it is seen from above and nothing ends a look early, or
 - rugged, with heights that go up and down between 0 and 32767 metres, so that a fourth of it is seen.
 
-Each question is asked of a database without cells, so that little else is done. Prints the seconds and the greatest memory of
-`height`, `profile`, `sight` and `view`. Given a PEER's command line, it times that too, run by run in turn, and prints the
-ratio. Both must print the same.
+Each question is asked of a database without cells, so that little else is done. Prints the seconds and the greatest
+memory of `height`, `profile`, `sight` and `view`. Given a PEER's command line, it times that too, run by run in turn,
+and prints the ratio. Both must print the same.
 """
-
-import pathlib
-import sys
-import tempfile
 
 import audit
 import timing
@@ -29,17 +25,13 @@ QUESTIONS = (
 )
 
 
-def main():
-    with tempfile.TemporaryDirectory() as folder:
-        base = pathlib.Path(folder)
-        timing.timed([timing.built(), base, "init", "0", "0"])
-        for title, greatest in (("flat", 0), ("rugged", audit.LAST)):
-            (base / "0/0/0.terrain").write_bytes(audit.tile(SIDE, audit.even(SIDE), greatest))
-            for words in QUESTIONS:
-                seconds, theirs, memory, said = timing.in_turn([base, *words], sys.argv[1:])
-                print(f"{words[0]}, {title}: {seconds:.3f} s, {memory:.1f} MB of memory{timing.beside(seconds, theirs)}")
-                print(f"  {said.decode().splitlines()[0]}", flush=True)
+def trials(files, _):
+    for title, greatest in (("flat", 0), ("rugged", audit.LAST)):
+        base, _ = timing.made(files / title, [], ["init", "0", "0"])
+        (base / "0/0/0.terrain").write_bytes(audit.tile(SIDE, audit.even(SIDE), greatest))
+        for words in QUESTIONS:
+            yield timing.Trial(f"`{words[0]}` on the densest tile, {title}", words, (base, base))
 
 
 if __name__ == "__main__":
-    main()
+    timing.show(trials)
