@@ -18,6 +18,13 @@ def commands_of(program):
     return {form.split()[0] for form in usage.split(" DIR ", 1)[1].split(" | ")}
 
 
+def said_by(words, **named):
+    """The status of a tool, its output, and as text what it says beside it."""
+    streams = {"stdout": subprocess.PIPE, "stderr": subprocess.PIPE}
+    done = subprocess.run([str(word) for word in words], check=False, timeout=110, **streams, **named)
+    return done.returncode, done.stdout, done.stderr.decode("utf-8", "replace").strip()
+
+
 class Stage:
     """Runs a program's words over the database `db` of a folder, and keeps what it said and left."""
 
