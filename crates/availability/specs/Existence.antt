@@ -34,7 +34,8 @@ abbrev pub is_tile : ℕ → ℕ → ℕ → Bool
 is_tile z row column = nat_le z 14 && (nat_lt row (2 ^ z) && nat_lt column (2 ^ (z + 1)))
 
 abbrev pub makes_at : ℕ → ℕ → ℕ → ℕ → Summary → Bool
-makes_at cap z row column cell = nat_le z (reach_of cap cell) && (crosses_at z row cell.square.lat && crosses_at z column cell.square.lon)
+makes_at cap z row column cell =
+    nat_le z (reach_of cap cell) && (crosses_at z row cell.square.lat && crosses_at z column cell.square.lon)
 
 abbrev pub exists_at : ℕ → List Summary → ℕ → ℕ → ℕ → Bool
 exists_at cap cells z row column = is_tile z row column && ((z == 0) || list_any (makes_at cap z row column) cells)
@@ -43,4 +44,5 @@ exists_at cap cells z row column = is_tile z row column && ((z == 0) || list_any
 
 -- each of the cells whose square touches the tile is among the others
 abbrev pub HasNear : TileId → List Summary → List Summary → Type 0
-HasNear tile cells others = (cell : Summary) → touches_of tile cell.square ≡ true → Contains cells cell → Contains others cell
+HasNear tile cells others = (cell : Summary) → touches_of tile cell.square ≡ true → Contains cells cell
+    → Contains others cell

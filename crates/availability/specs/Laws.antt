@@ -42,11 +42,13 @@ ReplacedLaw =
 
 -- it is that of the tile with the numbers
 abbrev pub NumbersLaw : Type 0
-NumbersLaw = (cap : ℕ) (cells : List Summary) (tile : TileId) → exists_at cap cells tile.z tile.y tile.x ≡ exists_of cap cells tile
+NumbersLaw = (cap : ℕ) (cells : List Summary) (tile : TileId)
+    → exists_at cap cells tile.z tile.y tile.x ≡ exists_of cap cells tile
 
 -- where there is no such tile, none exists
 abbrev pub NoTileLaw : Type 0
-NoTileLaw = (cap z row column : ℕ) (cells : List Summary) → is_tile z row column ≡ false → exists_at cap cells z row column ≡ false
+NoTileLaw = (cap z row column : ℕ) (cells : List Summary) → is_tile z row column ≡ false
+    → exists_at cap cells z row column ≡ false
 
 -- ---- runs
 
@@ -56,23 +58,27 @@ RunsLaw = (cap z : ℕ) (cells : List Summary) → AreRuns cap cells z (runs_of 
 
 -- and there is no other list of them
 abbrev pub OneListLaw : Type 0
-OneListLaw = (cap z : ℕ) (cells : List Summary) (list : List RowRun) → AreRuns cap cells z list → list ≡ runs_of cap cells z
+OneListLaw = (cap z : ℕ) (cells : List Summary) (list : List RowRun) → AreRuns cap cells z list
+    → list ≡ runs_of cap cells z
 
 -- ---- the layer text
 
 -- a tile of the deepest level exists
 abbrev pub ReachedLaw : Type 0
 ReachedLaw =
-    (cap : ℕ) (cells : List Summary) → (tile : TileId) × (tile.z ≡ deepest_of cap cells) × (exists_of cap cells tile ≡ true)
+    (cap : ℕ) (cells : List Summary)
+    → (tile : TileId) × (tile.z ≡ deepest_of cap cells) × (exists_of cap cells tile ≡ true)
 
 -- and none of a deeper one
 abbrev pub DeepestLaw : Type 0
-DeepestLaw = (cap : ℕ) (cells : List Summary) (tile : TileId) → exists_of cap cells tile ≡ true → tile.z ≤ deepest_of cap cells
+DeepestLaw = (cap : ℕ) (cells : List Summary) (tile : TileId) → exists_of cap cells tile ≡ true
+    → tile.z ≤ deepest_of cap cells
 
 -- the text is a function of the existing tiles
 abbrev pub TellsLaw : Type 0
 TellsLaw =
-    (cap top : ℕ) (cells others : List Summary) → ((tile : TileId) → exists_of cap cells tile ≡ exists_of top others tile)
+    (cap top : ℕ) (cells others : List Summary)
+    → ((tile : TileId) → exists_of cap cells tile ≡ exists_of top others tile)
     → layer_text_of cap cells ≡ layer_text_of top others
 
 -- ---- the count
@@ -83,4 +89,5 @@ ListedLaw = (cap : ℕ) (cells : List Summary) → (tiles : List TileId) × List
 
 -- and each such list is as long as the count
 abbrev pub CountLaw : Type 0
-CountLaw = (cap : ℕ) (cells : List Summary) (tiles : List TileId) → ListsTiles cap cells tiles → length tiles ≡ tile_count_of cap cells
+CountLaw = (cap : ℕ) (cells : List Summary) (tiles : List TileId) → ListsTiles cap cells tiles
+    → length tiles ≡ tile_count_of cap cells

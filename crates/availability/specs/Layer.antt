@@ -35,8 +35,10 @@ later_text deepest =
 
 -- the runs of each level from 0 on, and the deepest level
 abbrev pub text_of : List (List RowRun) → ℕ → List ℕ
-text_of levels deepest = codes "{\"available\":[" ++ (commas (map level_text levels) ++ (codes "]" ++ later_text deepest))
+text_of levels deepest = codes "{\"available\":["
+    ++ (commas (map level_text levels) ++ (codes "]" ++ later_text deepest))
 
 -- the layer text of the existing tiles
 unfoldable pub layer_text_of : ℕ → List Summary → List ℕ
-layer_text_of cap cells = text_of (map (runs_of cap cells) (range_with_len 0 (deepest_of cap cells + 1))) (deepest_of cap cells)
+layer_text_of cap cells = text_of (map (runs_of cap cells) (range_with_len 0 (deepest_of cap cells + 1)))
+    (deepest_of cap cells)

@@ -51,7 +51,8 @@ fn levels_value(
     deepest: u8,
 ) -> Result<Value, NoMemory>
     requires { deepest ≤ 14 }
-    ensures { IfOk result (λ value. view value ≡ levels_data (map (runs_of cap summaries.now) (range_with_len 0 (deepest + 1)))) }
+    ensures { IfOk result (λ value. view value
+        ≡ levels_data (map (runs_of cap summaries.now) (range_with_len 0 (deepest + 1)))) }
 {
     let mut values = Vec::new(alloc);
     for z in 0..deepest + 1 {
@@ -69,7 +70,8 @@ fn put_text(
     key: &str,
     text: &str,
 ) -> Result<(), AllocError>
-    ensures { OnOk result (members_view object.new.entries ≡ put key.now (string text.now) (members_view object.old.entries)) }
+    ensures { OnOk result (members_view object.new.entries
+        ≡ put key.now (string text.now) (members_view object.old.entries)) }
 {
     let text = String::from_str(alloc, text)?;
     serde_json::put(object, alloc, key, Value::String(text))

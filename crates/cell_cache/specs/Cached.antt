@@ -40,7 +40,8 @@ same_extremes (Some a) (Some b) = eq_by_cmp int_cmp a.least b.least && eq_by_cmp
 -- the bytes are a cell of the summary's square, level and extremes
 abbrev pub is_cell_of : Summary → List ℕ → Bool
 is_cell_of row bytes =
-    is_none (refusal_of bytes) && (eq_by_cmp key_cmp (key_in bytes) (row_key row) && same_extremes (extremes_in bytes) row.extremes)
+    is_none (refusal_of bytes) && (eq_by_cmp key_cmp (key_in bytes) (row_key row)
+    && same_extremes (extremes_in bytes) row.extremes)
 
 abbrev pub is_file_of : Summary → Option (List ℕ) → Bool
 is_file_of row None = false
@@ -70,7 +71,8 @@ is_fresh files cell = is_same (file_of files (key_in cell)) cell
 -- name, and each cell that the source holds has the bytes under its name.
 abbrev pub cells_through : List Summary → List (Slot × List ℕ) → Option Files → Option Cells
 cells_through rows held None = None
-cells_through rows held (Some files) = cond (list_all (λ entry. is_fresh files entry.1) held) (cells_told rows files) None
+cells_through rows held (Some files) =
+    cond (list_all (λ entry. is_fresh files entry.1) held) (cells_told rows files) None
 
 -- what is held in a slot is a cell of its key, which is one of the summaries'
 pub record IsHeldAt (rows : List Summary) (slot : Slot) (bytes : List ℕ) : Type 0 where

@@ -9,7 +9,8 @@ use Rattle.cell_cache.specs.Slot.{slot_at}
 
 -- a cell in the slot of the key has a post in this column and row
 abbrev pub Reaches : List (Slot × List ℕ) → CellKey → ℕ → ℕ → Type 0
-Reaches held key col row = (bytes : List ℕ) → Contains held (slot_at key, bytes) → (col < columns_in bytes) × (row < rows_in bytes)
+Reaches held key col row = (bytes : List ℕ) → Contains held (slot_at key, bytes)
+    → (col < columns_in bytes) × (row < rows_in bytes)
 
 -- it is the post of a cell in the slot of the key
 pub record IsHeldPost (held : List (Slot × List ℕ)) (key : CellKey) (col row : ℕ) (post : Post) : Type 0 where

@@ -81,10 +81,11 @@ pub record Marks {T : Type 0} (before now : Bool) (result : Result T SourceFault
   pub unspoilt : OnOk result (now ≡ before)
   pub troubled : IfErr result (λ fault. IsTrouble fault → now ≡ true)
 
--- What a call on a source leaves of it and of the store that it is lent, and what its answer shows. A sure source answers
--- Ok; trouble with a cell is shown, 'Failed' has a cause; nothing that can be seen is changed; and trouble is not passed
--- over. The first seven are the meanings of the source and of the store.
-pub record Leaves {P S T : Type 0} (cells : P → Option Files → Option Cells) (shapes : P → Shapes) (is_sure is_spoilt : P → Bool)
+-- What a call on a source leaves of it and of the store that it is lent, and what its answer shows. A sure source
+-- answers Ok; trouble with a cell is shown, 'Failed' has a cause; nothing that can be seen is changed; and trouble is
+-- not passed over. The first seven are the meanings of the source and of the store.
+pub record Leaves {P S T : Type 0} (cells : P → Option Files → Option Cells) (shapes : P → Shapes)
+  (is_sure is_spoilt : P → Bool)
     (holds : S → Option Files) (log : S → Option (List Change)) (faults : S → ℕ)
     (source source' : P) (store store' : S) (result : Result T SourceFault) : Type 0 where
   pub sure : IsTrue (is_sure source) → IsOk result

@@ -109,7 +109,8 @@ rebuilding files s = steps_to (file_of s) (rebuild_names files s)
 
 -- `init` and `rebuild`
 abbrev pub rebuild_calls : Files → State → List Step
-rebuild_calls files s = Write Manifest (marked_text Rebuild s) ∷ rebuilding (insert files Manifest (marked_text Rebuild s)) s
+rebuild_calls files s = Write Manifest (marked_text Rebuild s)
+    ∷ rebuilding (insert files Manifest (marked_text Rebuild s)) s
 
 -- settling finishes what is under way
 abbrev pub settling : ManifestState → Files → State → List Step

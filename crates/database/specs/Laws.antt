@@ -29,12 +29,13 @@ TilesAreLocal = (params : Params) (cells others : Cells) (square : Square)
     → ((key : CellKey) → key.square ≢ square → get cells key ≡ get others key)
     → (tile : TileId) → touches_of tile square ≡ false
     → (tile_exists (state_of params cells) tile ≡ tile_exists (state_of params others) tile)
-    × (terrain_of params cells tile ≡ terrain_of params others tile) × (note_of params cells tile ≡ note_of params others tile)
+    × (terrain_of params cells tile ≡ terrain_of params others tile)
+    × (note_of params cells tile ≡ note_of params others tile)
 
 -- ---- commands
 
--- begun on files that stand for a state, closed, each front of a command's changes leaves files that stand for it or for
--- the new one, and all of them leave the new one's
+-- begun on files that stand for a state, closed, each front of a command's changes leaves files that stand for it or
+-- for the new one, and all of them leave the new one's
 abbrev pub CommandsStand : Type 0
 CommandsStand = (c : Edit) (s : State) (files : Files) → IsState (after c s) → StandsMarked files s Closed
     → ((n : ℕ) → n ≤ length (calls c s) → OldOrNew c s (all_changed (take n (calls c s)) files))
@@ -67,7 +68,8 @@ SettlingReads = (mark : ManifestState) (s : State) (files : Files) → ReadsAs f
 abbrev pub RebuildingsStand : Type 0
 RebuildingsStand = (s : State) (files : Files) → ReadsAs files s Closed
     → ((n : ℕ) → n ≤ length (rebuild_calls files s)
-    → (all_changed (take n (rebuild_calls files s)) files ≡ files) ⊎ StandsFor (all_changed (take n (rebuild_calls files s)) files) s)
+    → (all_changed (take n (rebuild_calls files s)) files ≡ files)
+    ⊎ StandsFor (all_changed (take n (rebuild_calls files s)) files) s)
     × AreFiles (all_changed (rebuild_calls files s) files) s
 
 -- ---- openings

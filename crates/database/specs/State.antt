@@ -59,13 +59,14 @@ kept_under (Put other) key = if eq_by_cmp key_cmp key other then Stage else Cell
 kept_under (Drop other) key = Cell key
 kept_under Rebuild key = Cell key
 
--- the manifest is that of the state with this mark, a cell that is put has its row and one that is dropped has none, and
--- each cell's bytes are where they are kept
+-- the manifest is that of the state with this mark, a cell that is put has its row and one that is dropped has none,
+-- and each cell's bytes are where they are kept
 pub record ReadsAs (files : Files) (s : State) (mark : ManifestState) : Type 0 where
   pub manifest : get files Manifest ≡ Some (manifest_text s.params mark (keys s.cells))
   pub fit : fits_rows mark (keys s.cells) ≡ true
   pub state : IsState s
-  pub cells : (key : CellKey) (bytes : List ℕ) → get s.cells key ≡ Some bytes → get files (kept_under mark key) ≡ Some bytes
+  pub cells : (key : CellKey) (bytes : List ℕ) → get s.cells key ≡ Some bytes
+      → get files (kept_under mark key) ≡ Some bytes
 
 -- it reads as the state, whatever is under way
 pub record ReadsFor (files : Files) (s : State) : Type 0 where

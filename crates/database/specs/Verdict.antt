@@ -39,7 +39,8 @@ IsVerdict s files (Some found) =
 abbrev pub IsLeast : (Key → Option Difference) → List Key → Option Finding → Type 0
 IsLeast at names None = (other : Key) → is_among other names ≡ true → at other ≡ None
 IsLeast at names (Some found) =
-    (at found.name ≡ Some found.kind) × ((other : Key) → is_among other names ≡ true → by_text other found.name ≡ Less → at other ≡ None)
+    (at found.name ≡ Some found.kind)
+    × ((other : Key) → is_among other names ≡ true → by_text other found.name ≡ Less → at other ≡ None)
 
 -- a state's files
 abbrev pub wanted_names : State → List Key

@@ -2,14 +2,14 @@
 ghost use Rattle.database.specs.Laws.{TilesAreLocal, CommandsStand, CommandsOverwrite};
 ghost use Rattle.database.specs.Laws.{SettlingStands, SettlingReads, RebuildingsStand, FilesOpenOnce};
 
-/// Where two states agree on all keys but those of a square, a tile that does not touch it exists in both or in neither,
-/// with equal files.
+/// Where two states agree on all keys but those of a square, a tile that does not touch it exists in both or in
+/// neither, with equal files.
 pub fn tiles_are_local()
     ensures { TilesAreLocal }
 {}
 
-/// Each front of a command's changes leaves files that stand for the old state or for the new one, and all of them leave
-/// the new one's files.
+/// Each front of a command's changes leaves files that stand for the old state or for the new one, and all of them
+/// leave the new one's files.
 pub fn commands_stand()
     ensures { CommandsStand }
 {}

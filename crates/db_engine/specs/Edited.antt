@@ -33,8 +33,8 @@ pub record Turned {T : Type 0} (edit : Edit) (o o' : Contents) (result : Result 
   pub ok : OnOk result (o' ≡ contents_of o.params (rows_after edit o.rows) true)
   pub err : OnErr result (o'.live ≡ false)
 
--- What is answered in place of Ok where the command is not refused: a stop, or trouble with the cell of a row behind the
--- edit. Where the store tells its files, they show the trouble as the call begins, and the row was there then.
+-- What is answered in place of Ok where the command is not refused: a stop, or trouble with the cell of a row behind
+-- the edit. Where the store tells its files, they show the trouble as the call begins, and the row was there then.
 pub record EditTrouble {T : Type 0} (edit : Edit) (rows : List Summary) (held : Option Files)
     (result : Result T EngineAnswer) : Type 0 where
   pub any : OnlyStopsOrRowTrouble (rows_after edit rows) held result

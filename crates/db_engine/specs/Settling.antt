@@ -68,7 +68,8 @@ pub record IsIdle (files : Files) (held : Option Files) (log log' : Option (List
   pub same_work : work' ≡ work
 
 -- an answer that tells how the files open is right, and then the call is idle; one that tells nothing of it is a stop
-abbrev pub IsRefusalBy : Option Opening → EngineAnswer → Files → Option Files → Option (List Change) → Option (List Change)
+abbrev pub IsRefusalBy : Option Opening → EngineAnswer → Files → Option Files → Option (List Change)
+    → Option (List Change)
     → ℕ → ℕ → Type 0
 IsRefusalBy None answer files held log log' work work' = IsStop answer
 IsRefusalBy (Some opening) answer files held log log' work work' =

@@ -157,8 +157,8 @@ fn take_out<S: Store>(
 /// Adds a cell. K1 exactly where its key has one, and K3 exactly where it has none and there are 4096 cells: then
 /// nothing is changed. After Ok its row is among the rows, after any other error the opened database is not live. Over
 /// a store that holds the opened cells the changes are the command's, or a front of them where it stops. Over every
-/// other store only trouble with the cell of a row may be answered besides; where the store tells its files, they show it
-/// as the call begins.
+/// other store only trouble with the cell of a row may be answered besides; where the store tells its files, they show
+/// it as the call begins.
 pub fn add<S: Store>(
     alloc: Global,
     store: &mut S,

@@ -56,8 +56,8 @@ pub fn init<S: Store>(
 /// Makes every tile anew, and deletes what is no file of the database. Nothing is refused: after an error the opened
 /// database is not live. Over a store that holds the opened cells the changes are those of a rebuilding, or a front of
 /// them where it stops by the store or for want of memory. After Ok the store stands for the cells, after a stop it
-/// holds them still. Over every other store only trouble with the cell of a row may be answered besides; where the store
-/// tells its files, they show it as the call begins.
+/// holds them still. Over every other store only trouble with the cell of a row may be answered besides; where the
+/// store tells its files, they show it as the call begins.
 pub fn rebuild<S: Store>(
     alloc: Global,
     store: &mut S,

@@ -67,8 +67,8 @@ pub fn put_last<S: Store>(
 /// there are none; each tile that touches its square is made or taken away; then layer and closed manifest are put, and
 /// the stage is deleted. Where the store holds all other cells of a state with these params and rows, these are the
 /// changes of that state's closing, nothing but a stop is answered in place of Ok, and no more tiles are made than
-/// exist and touch the square. Over every other store only trouble with the cell of a row may be answered besides; where
-/// the store tells its files, they show it once the cell is put.
+/// exist and touch the square. Over every other store only trouble with the cell of a row may be answered besides;
+/// where the store tells its files, they show it once the cell is put.
 pub fn close<S: Store>(
     alloc: Global,
     store: &mut S,

@@ -58,8 +58,8 @@ fn calls_to_stop_at(
 
 // Whether a stop at each call of a migration, with and without effect, leaves what comes to be the files of version 3,
 // and whether its calls end before this one. Manifest and cell are read; the cell is fetched and put where it gets
-// another name. Then come the manifest, the names, the deletion of an old name, a get of the cell and six puts of tiles,
-// layer, closed manifest and stage.
+// another name. Then come the manifest, the names, the deletion of an old name, a get of the cell and six puts of
+// tiles, layer, closed manifest and stage.
 fn stops_are_right(
     alloc: Global,
     manifest: &[u8],

@@ -30,7 +30,8 @@ pub record IsTroubleAt (files : Files) (staged : Option OldRow) (row : OldRow) (
   pub shown : Shows (key_of row (bytes_under files (name_of trouble))) files trouble
 
 -- the trouble is with the first of the rows whose cell is not held
-pub record IsFirstRow (files : Files) (staged : Option OldRow) (rows : List OldRow) (trouble : CellTrouble) : Type 0 where
+pub record IsFirstRow (files : Files) (staged : Option OldRow) (rows : List OldRow)
+  (trouble : CellTrouble) : Type 0 where
   pub front : List OldRow
   pub row : OldRow
   pub back : List OldRow

@@ -10,7 +10,8 @@ use Rattle.db_report.specs.declared.done.Edited.TheVariants.{Added, Replaced, Re
 
 -- `created cap L fill F`, with the fill in metres
 abbrev pub created_line_of : Params → List ℕ
-created_line_of params = joined (codes "created cap " ∷ decimal params.cap ∷ codes " fill " ∷ signed_decimal params.fill ∷ [])
+created_line_of params = joined
+    (codes "created cap " ∷ decimal params.cap ∷ codes " fill " ∷ signed_decimal params.fill ∷ [])
 
 abbrev pub word_of : Edited → List ℕ
 word_of Added = codes "added"
@@ -19,7 +20,8 @@ word_of Removed = codes "removed"
 
 -- `added SQUARE tiles N`, `replaced ..`, `removed ..`, with the number of tiles afterwards
 abbrev pub edited_line_of : Edited → Square → ℕ → List ℕ
-edited_line_of edited square tiles = joined (word_of edited ∷ codes " " ∷ square_text square ∷ codes " tiles " ∷ decimal tiles ∷ [])
+edited_line_of edited square tiles =
+    joined (word_of edited ∷ codes " " ∷ square_text square ∷ codes " tiles " ∷ decimal tiles ∷ [])
 
 -- `rebuilt tiles N`
 abbrev pub rebuilt_line_of : ℕ → List ℕ

@@ -13,7 +13,9 @@ use Rattle.report_text.specs.Words.{joined, number_or_dash}
 
 -- `cap L fill F cells N`
 abbrev pub list_head : Params → ℕ → List ℕ
-list_head params cells = joined (codes "cap " ∷ decimal params.cap ∷ codes " fill " ∷ signed_decimal params.fill ∷ codes " cells " ∷ decimal cells ∷ [])
+list_head params cells = joined
+    (codes "cap " ∷ decimal params.cap ∷ codes " fill " ∷ signed_decimal params.fill ∷ codes " cells "
+    ∷ decimal cells ∷ [])
 
 -- `SQUARE level V min A max B`
 abbrev pub row_line_of : Summary → List ℕ
@@ -24,7 +26,8 @@ row_line_of row = joined
 
 -- a database's params, and its cells in their order, each line with its line feed
 abbrev pub list_text_of : Params → List Summary → List ℕ
-list_text_of params rows = joined (list_head params (length rows) ∷ codes "\n" ∷ flat_map (λ row. row_line_of row ++ codes "\n") rows ∷ [])
+list_text_of params rows = joined
+    (list_head params (length rows) ∷ codes "\n" ∷ flat_map (λ row. row_line_of row ++ codes "\n") rows ∷ [])
 
 -- `tile Z/X/Y cells N`, where N counts squares
 abbrev pub deps_head : TileId → ℕ → List ℕ
@@ -32,4 +35,5 @@ deps_head tile cells = joined (codes "tile " ∷ tile_text tile ∷ codes " cell
 
 -- the squares that a tile touches, each line with its line feed
 abbrev pub deps_text_of : TileId → List Square → List ℕ
-deps_text_of tile squares = joined (deps_head tile (length squares) ∷ codes "\n" ∷ flat_map (λ square. square_text square ++ codes "\n") squares ∷ [])
+deps_text_of tile squares = joined
+    (deps_head tile (length squares) ∷ codes "\n" ∷ flat_map (λ square. square_text square ++ codes "\n") squares ∷ [])

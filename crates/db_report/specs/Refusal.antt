@@ -19,8 +19,10 @@ key_text_of square level = joined (square_text square ∷ codes " level " ∷ de
 -- something is wrong with a stored cell
 abbrev pub trouble_text_of : CellTrouble → List ℕ
 trouble_text_of (Lost name) = joined (codes "K6 cell lost " ∷ text_of name ∷ [])
-trouble_text_of (Bad name refusal) = joined (codes "K7 cell bad " ∷ text_of name ∷ codes " " ∷ cell_refusal_of refusal ∷ [])
-trouble_text_of (Elsewhere name found) = joined (codes "K8 cell elsewhere " ∷ text_of name ∷ codes " " ∷ square_text found ∷ [])
+trouble_text_of (Bad name refusal) =
+    joined (codes "K7 cell bad " ∷ text_of name ∷ codes " " ∷ cell_refusal_of refusal ∷ [])
+trouble_text_of (Elsewhere name found) =
+    joined (codes "K8 cell elsewhere " ∷ text_of name ∷ codes " " ∷ square_text found ∷ [])
 trouble_text_of (Changed name opened found) = joined
     (codes "K9 cell changed " ∷ text_of name ∷ codes " from level " ∷ decimal (level_number opened)
     ∷ codes " to level " ∷ decimal (level_number found) ∷ [])

@@ -5,7 +5,8 @@ use Rattle.db_report.specs.declared.trial.TrialReport.{TrialReport}
 
 abbrev pub commands_text : TrialReport → List ℕ
 commands_text report = joined
-    (codes "trial " ∷ decimal report.count ∷ codes " " ∷ decimal report.number ∷ codes " accepted " ∷ decimal report.accepted
+    (codes "trial " ∷ decimal report.count ∷ codes " " ∷ decimal report.number ∷ codes " accepted "
+    ∷ decimal report.accepted
     ∷ codes " refused " ∷ decimal report.refused ∷ [])
 
 -- `trial COUNT NUMBER accepted A refused R cells C tiles T bytes B scratch D`

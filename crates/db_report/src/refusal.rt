@@ -53,8 +53,8 @@ fn trouble_text(alloc: Global, trouble: &CellTrouble) -> Result<String, NoMemory
     }
 }
 
-/// What is printed of an answer that refuses, from its number on: `K1` to `K13`. `None` exactly where it refuses nothing,
-/// since the store failed or memory was refused.
+/// What is printed of an answer that refuses, from its number on: `K1` to `K13`. `None` exactly where it refuses
+/// nothing, since the store failed or memory was refused.
 pub fn refusal_text(alloc: Global, answer: &EngineAnswer) -> Result<Option<String>, NoMemory>
     ensures { IfOk result (λ text. option_map string_bytes text ≡ refusal_text_of answer.now) }
 {

@@ -31,9 +31,9 @@ fn edges_word(alloc: Global, view: &TileView<'_>) -> Result<String, NoMemory>
     Ok(format!(in alloc; "{west} {south} {east} {north}")?)
 }
 
-/// What `inspect` prints first of a stored tile, without the line feed: the number given for its bytes, how many vertices
-/// and triangles it has, its header's least and greatest height in metres (a dash where one is no whole number below
-/// 2^24), and how many vertices lie on its west, south, east and north edge.
+/// What `inspect` prints first of a stored tile, without the line feed: the number given for its bytes, how many
+/// vertices and triangles it has, its header's least and greatest height in metres (a dash where one is no whole number
+/// below 2^24), and how many vertices lie on its west, south, east and north edge.
 pub fn tile_line(
     alloc: Global,
     tile: TileId,
@@ -41,7 +41,8 @@ pub fn tile_line(
     view: &TileView<'_>,
 ) -> Result<String, NoMemory>
     ensures { IfOk result (λ line. (least greatest : Option ℤ) → IsHeightWord (header_in view.now).least least
-        → IsHeightWord (header_in view.now).greatest greatest → string_bytes line ≡ tile_line_of tile bytes view.now least greatest) }
+        → IsHeightWord (header_in view.now).greatest greatest
+        → string_bytes line ≡ tile_line_of tile bytes view.now least greatest) }
 {
     let tile = tile_word(alloc, tile)?;
     let vertices = view.vertices();

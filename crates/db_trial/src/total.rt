@@ -8,8 +8,8 @@ ghost use Rattle.db_trial.specs.Trial.{bytes_in, length_of};
 use database::EngineAnswer;
 use terrain_base::{Name, Store};
 
-// A total with the length of a file. One that 64 bits do not hold is answered as want of memory: a store in memory cannot
-// get there.
+// A total with the length of a file. One that 64 bits do not hold is answered as want of memory: a store in memory
+// cannot get there.
 fn with_length<S: Store>(store: &mut S, name: &Name, total: u64) -> Result<u64, EngineAnswer>
     ensures sum { IfOk result (λ sum. (files : Files) → S.holds store.old ≡ Some files
         → sum ≡ total + length_of (map.get files name.now)) }

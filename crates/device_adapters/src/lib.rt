@@ -1,5 +1,6 @@
 //! The store, the library and the sink over a real folder, real files and standard output: the trusted edge. Each is
-//! proved against its trait and counts its faults, but no contract says what a real file or output holds, returns or does.
+//! proved against its trait and counts its faults, but no contract says what a real file or output holds, returns or
+//! does.
 #![tactic(auto)]
 
 mod fault;

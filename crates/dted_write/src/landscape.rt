@@ -48,7 +48,8 @@ fn split(seconds: u64) -> (u64, u64)
 fn weighted(sw: u64, se: u64, nw: u64, ne: u64, fx: u64, fy: u64) -> u64
     requires heights { (sw ≤ 2000) × (se ≤ 2000) × (nw ≤ 2000) × (ne ≤ 2000) }
     requires place { (fx ≤ 450) × (fy ≤ 450) }
-    ensures value { result ≡ sw * ((450 - fx) * (450 - fy)) + se * (fx * (450 - fy)) + nw * ((450 - fx) * fy) + ne * (fx * fy) }
+    ensures value { result ≡ sw * ((450 - fx) * (450 - fy)) + se * (fx * (450 - fy)) + nw * ((450 - fx) * fy)
+        + ne * (fx * fy) }
     ensures most { result ≤ 405000000 }
 {
     sw * ((450 - fx) * (450 - fy))

@@ -8,7 +8,8 @@ use Rattle.ecef_boxes.specs.Ellipsoid.{Encloses}
 
 -- the box of a place encloses what the formulas of Earth-fixed coordinates give there, at every height
 abbrev pub EnclosureLaw : Type 0
-EnclosureLaw = (place : Place) (metres : ℤ) → IsPlace place → Encloses place metres (radii_at place) (box_of place metres)
+EnclosureLaw = (place : Place) (metres : ℤ) → IsPlace place
+    → Encloses place metres (radii_at place) (box_of place metres)
 
 -- its numbers are from -2^31 to 2^31 at each height from -16000 to 16000 metres
 abbrev pub SizeLaw : Type 0

@@ -73,7 +73,8 @@ pub fn box_at(meridian: &Meridian, parallel: &Parallel, metres: i16) -> EcefBox
     requires low { neg_ℤ (pos 16000) ≤ℤ metres }
     requires high { metres ≤ℤ pos 16000 }
     ensures exact { result ≡ box_of (crossing meridian.now parallel.now) metres }
-    ensures encloses { Encloses (crossing meridian.now parallel.now) metres (radii_at (crossing meridian.now parallel.now)) result }
+    ensures encloses { Encloses (crossing meridian.now parallel.now) metres
+        (radii_at (crossing meridian.now parallel.now)) result }
     ensures size { IsBoxWithin 31 result }
 {
     let out = from_axis(&parallel.radii, metres as i128, &parallel.turn.cosine);

@@ -29,7 +29,8 @@ pub record HeldGap (cells : Cells) (key : CellKey) (col row : ℕ) (t : Tri) (u 
   pub size : pos gap ≡ gap_over t (pos 10125) u v metres
 
 -- a gap at one of the column's rows that stand before a row
-pub record InColumn (cells : Cells) (key : CellKey) (col : ℕ) (t : Tri) (u : ℤ) (north : Axis) (end gap : ℕ) : Type 0 where
+pub record InColumn (cells : Cells) (key : CellKey) (col : ℕ) (t : Tri) (u : ℤ) (north : Axis)
+    (end gap : ℕ) : Type 0 where
   pub row : ℕ
   pub has : Has north row
   pub before : row < end

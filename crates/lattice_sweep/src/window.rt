@@ -38,11 +38,13 @@ fn climb<P: PostSource, S: Store>(
     requires window { IsWindow (P.shapes src.old) window.now }
     requires col { Has window.now.east col }
     requires rows { (i : ℕ) → Has rows.now i
-        ↔ (Has window.now.north i × Holds (pos 10125) (point_of window.now.east col) (point_of window.now.north i) tri.now) }
+        ↔ (Has window.now.north i × Holds (pos 10125) (point_of window.now.east col)
+        (point_of window.now.north i) tri.now) }
     requires some { rows.now.from < rows.now.to }
     requires worst { pos worst ≤ℤ (pos 32000 *ℤ gap_under tri.now (pos 10125)) }
     ensures value { IfOk result (λ after. (told : Cells) → P.cells src.old (S.holds store.old) ≡ Some told
-        → IsRaised (InColumn told window.now.key col tri.now (point_of window.now.east col) window.now.north window.now.north.to) worst after) }
+        → IsRaised (InColumn told window.now.key col tri.now (point_of window.now.east col) window.now.north
+        window.now.north.to) worst after) }
     ensures size { IfOk result (λ after. pos after ≤ℤ (pos 32000 *ℤ gap_under tri.now (pos 10125))) }
     ensures leaves { Leaves P.cells P.shapes P.sure P.spoilt S.holds S.log S.faults
         src.old src.new store.old store.new result }
@@ -78,7 +80,8 @@ fn column<P: PostSource, S: Store>(
     requires col { Has window.now.east col }
     requires worst { pos worst ≤ℤ (pos 32000 *ℤ gap_under tri.now (pos 10125)) }
     ensures value { IfOk result (λ after. (told : Cells) → P.cells src.old (S.holds store.old) ≡ Some told
-        → IsRaised (InColumn told window.now.key col tri.now (point_of window.now.east col) window.now.north window.now.north.to) worst after) }
+        → IsRaised (InColumn told window.now.key col tri.now (point_of window.now.east col) window.now.north
+        window.now.north.to) worst after) }
     ensures size { IfOk result (λ after. pos after ≤ℤ (pos 32000 *ℤ gap_under tri.now (pos 10125))) }
     ensures leaves { Leaves P.cells P.shapes P.sure P.spoilt S.holds S.log S.faults
         src.old src.new store.old store.new result }

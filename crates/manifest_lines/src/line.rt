@@ -46,7 +46,8 @@ pub(crate) fn take_number<'a>(bytes: &'a [u8], word: &[u8], most: u16) -> Option
 // The line of the fill, and what follows it.
 pub(crate) fn take_fill(bytes: &[u8]) -> Option<(i16, &[u8])>
     ensures some { IfSome result (λ taken. IsHeight taken.0 × (bytes.now ≡ fill_line taken.0 ++ 10 ∷ taken.1.now)) }
-    ensures none { IfNone result ((fill : ℤ) (rest : List ℕ) → IsHeight fill → bytes.now ≢ fill_line fill ++ 10 ∷ rest) }
+    ensures none { IfNone result ((fill : ℤ) (rest : List ℕ) → IsHeight fill
+        → bytes.now ≢ fill_line fill ++ 10 ∷ rest) }
 {
     let (line, rest) = split_line(bytes)?;
     let fill = read_height(line.strip_prefix(b"fill ")?)?;

@@ -14,7 +14,8 @@ difference_at bytes at k = difference (number_at 2 bytes (at + 2 * k))
 
 -- the sum of the differences at the first places of an array
 unfoldable pub sum_before : List ℕ → ℕ → ℕ → ℤ
-sum_before bytes at k = fold (λ sum difference. sum +ℤ difference) (pos 0) (map (difference_at bytes at) (range_with_len 0 k))
+sum_before bytes at k = fold (λ sum difference. sum +ℤ difference) (pos 0)
+    (map (difference_at bytes at) (range_with_len 0 k))
 
 -- the running value at a place
 unfoldable pub running_value : List ℕ → ℕ → ℕ → ℤ
@@ -31,4 +32,5 @@ code_at bytes at k = unwrap_or (to_code (running_value bytes at k)) 0
 
 -- the array at an offset has these codes: each is its difference more than the one before, the first than 0
 abbrev pub HasCodes : List ℕ → ℕ → List ℕ → Type 0
-HasCodes bytes at codes = (k : ℕ) → k < length codes → pos (slice_index codes k) ≡ pos (slice_index (0 ∷ codes) k) +ℤ difference_at bytes at k
+HasCodes bytes at codes = (k : ℕ) → k < length codes
+    → pos (slice_index codes k) ≡ pos (slice_index (0 ∷ codes) k) +ℤ difference_at bytes at k

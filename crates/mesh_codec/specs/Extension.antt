@@ -22,12 +22,16 @@ unfoldable pub extension_end : List ℕ → ℕ → ℕ
 extension_end bytes at = at + 5 + number_at 4 bytes (at + 1)
 
 abbrev pub extension_at : List ℕ → ℕ → ExtensionData
-extension_at bytes at = record { id = slice_index bytes at; bytes = slice_range bytes (at + 5) (extension_end bytes at) }
+extension_at bytes at = record {
+  id = slice_index bytes at;
+  bytes = slice_range bytes (at + 5) (extension_end bytes at);
+}
 
 -- the extensions from an offset on, at most so many
 abbrev pub some_extensions : ℕ → List ℕ → ℕ → List ExtensionData
 some_extensions zero bytes at = []
-some_extensions (suc most) bytes at = if nat_lt at (length bytes) then extension_at bytes at ∷ some_extensions most bytes (extension_end bytes at) else []
+some_extensions (suc most) bytes at =
+    if nat_lt at (length bytes) then extension_at bytes at ∷ some_extensions most bytes (extension_end bytes at) else []
 
 -- the extensions from an offset on: there are no more of them than bytes
 unfoldable pub extensions_from : List ℕ → ℕ → List ExtensionData

@@ -21,7 +21,8 @@ is_no_vertex vertices mark code = nat_lt mark code || nat_le vertices (mark - co
 
 -- the codes at an offset stand for these indexes
 abbrev pub HasIndexes : ℕ → List ℕ → ℕ → List ℕ → Type 0
-HasIndexes width bytes at indexes = (k : ℕ) → k < length indexes → slice_index indexes k + entry_at width bytes at k ≡ mark_at width bytes at k
+HasIndexes width bytes at indexes = (k : ℕ) → k < length indexes
+    → slice_index indexes k + entry_at width bytes at k ≡ mark_at width bytes at k
 
 -- the numbers at an offset are these
 abbrev pub HasEntries : ℕ → List ℕ → ℕ → List ℕ → Type 0

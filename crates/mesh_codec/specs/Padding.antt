@@ -6,4 +6,5 @@ use Rattle.mesh_codec.specs.Layout.{vertices_in}
 
 -- each byte behind the vertex data and before the index data is 0
 abbrev pub HasZeroPadding : List ℕ → Type 0
-HasZeroPadding bytes = (place : ℕ) → 92 + 6 * vertices_in bytes ≤ place → place < index_data_at (vertices_in bytes) → slice_index bytes place ≡ 0
+HasZeroPadding bytes = (place : ℕ) → 92 + 6 * vertices_in bytes ≤ place → place < index_data_at (vertices_in bytes)
+    → slice_index bytes place ≡ 0

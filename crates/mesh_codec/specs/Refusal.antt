@@ -27,7 +27,8 @@ first_of (refusal ∷ later) = option_or refusal (first_of later)
 
 -- a refusal stands in the list, and none before it
 abbrev pub IsFirst : List (Option TileRefusal) → TileRefusal → Type 0
-IsFirst refusals refusal = (before after : List (Option TileRefusal)) × (refusals ≡ before ++ Some refusal ∷ after) × All IsNone before
+IsFirst refusals refusal = (before after : List (Option TileRefusal)) × (refusals ≡ before ++ Some refusal ∷ after)
+    × All IsNone before
 
 -- a part of so many bytes, from an offset on, does not fit
 abbrev pub part_condition : List ℕ → ℕ → ℕ → Option TileRefusal
@@ -79,7 +80,8 @@ abbrev pub some_extension_conditions : ℕ → List ℕ → ℕ → List (Option
 some_extension_conditions zero bytes at = []
 some_extension_conditions (suc most) bytes at =
     if nat_lt at (length bytes)
-    then (ExtensionTruncated at when nat_lt (length bytes) (extension_end bytes at)) ∷ some_extension_conditions most bytes (extension_end bytes at)
+    then (ExtensionTruncated at when nat_lt (length bytes) (extension_end bytes at))
+    ∷ some_extension_conditions most bytes (extension_end bytes at)
     else []
 
 -- the extensions from an offset on: there are no more of them than bytes

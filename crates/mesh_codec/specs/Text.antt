@@ -65,14 +65,16 @@ AreWithinMark mark (index ∷ indexes) = (index ≤ mark) × AreWithinMark (mark
 -- indexes by high water mark: each as the mark less the index
 abbrev pub indexes_text : ℕ → ℕ → List ℕ → List ℕ
 indexes_text width mark [] = []
-indexes_text width mark (index ∷ indexes) = little_bytes width (mark - index) ++ indexes_text width (mark_after mark index) indexes
+indexes_text width mark (index ∷ indexes) =
+    little_bytes width (mark - index) ++ indexes_text width (mark_after mark index) indexes
 
 -- a list of vertices along an edge
 abbrev pub edge_text : ℕ → List ℕ → List ℕ
 edge_text width list = little_bytes 4 (length list) ++ flat_map (little_bytes width) list
 
 abbrev pub edges_text : ℕ → Mesh → List ℕ
-edges_text width mesh = edge_text width mesh.west ++ (edge_text width mesh.south ++ (edge_text width mesh.east ++ edge_text width mesh.north))
+edges_text width mesh = edge_text width mesh.west
+    ++ (edge_text width mesh.south ++ (edge_text width mesh.east ++ edge_text width mesh.north))
 
 abbrev pub arrays_text : Mesh → List ℕ
 arrays_text mesh =
@@ -85,5 +87,6 @@ triangles_text width mesh = little_bytes 4 (length mesh.triangles) ++ indexes_te
 -- the whole, without an extension
 unfoldable pub tile_text : Header → Mesh → List ℕ
 tile_text header mesh = let width = index_width (length mesh.vertices) in
-    header_text header ++ (little_bytes 4 (length mesh.vertices) ++ (arrays_text mesh ++ (padding_text (length mesh.vertices)
+    header_text header ++ (little_bytes 4 (length mesh.vertices)
+    ++ (arrays_text mesh ++ (padding_text (length mesh.vertices)
     ++ (triangles_text width mesh ++ edges_text width mesh))))

@@ -48,7 +48,11 @@ vertex_list bytes = map (vertex_at bytes (vertices_in bytes)) (range_with_len 0 
 abbrev pub triangle_at : List ℕ → ℕ → ℕ → Indexes
 triangle_at bytes vertices k =
     let width = index_width vertices in let at = index_data_at vertices + 4 in
-    record { a = index_at width bytes at (3 * k); b = index_at width bytes at (3 * k + 1); c = index_at width bytes at (3 * k + 2) }
+    record {
+      a = index_at width bytes at (3 * k);
+      b = index_at width bytes at (3 * k + 1);
+      c = index_at width bytes at (3 * k + 2);
+    }
 
 unfoldable pub triangle_list : List ℕ → List Indexes
 triangle_list bytes = map (triangle_at bytes (vertices_in bytes)) (range_with_len 0 (triangles_in bytes))
@@ -59,7 +63,8 @@ entries_at width bytes at count = map (entry_at width bytes at) (range_with_len 
 
 -- the vertices along an edge
 unfoldable pub edge_list : List ℕ → Edge → List ℕ
-edge_list bytes edge = entries_at (index_width (vertices_in bytes)) bytes (edge_at bytes edge + 4) (number_at 4 bytes (edge_at bytes edge))
+edge_list bytes edge = entries_at (index_width (vertices_in bytes)) bytes (edge_at bytes edge + 4)
+    (number_at 4 bytes (edge_at bytes edge))
 
 unfoldable pub extension_list : List ℕ → List ExtensionData
 extension_list bytes = extensions_from bytes (extensions_at bytes)
@@ -86,15 +91,19 @@ pub record Decodes (bytes : List ℕ) (header : Header) (mesh : Mesh) (extension
   pub header_is : header_in bytes ≡ header
   pub is_mesh : IsMesh mesh
   pub vertex_count : vertices_in bytes ≡ length mesh.vertices
-  pub codes : (array : Array) → HasCodes bytes (array_at (vertices_in bytes) array) (map (coordinate array) mesh.vertices)
+  pub codes : (array : Array) → HasCodes bytes (array_at (vertices_in bytes) array)
+      (map (coordinate array) mesh.vertices)
   pub triangle_count : triangles_in bytes ≡ length mesh.triangles
-  pub indexes : HasIndexes (index_width (vertices_in bytes)) bytes (index_data_at (vertices_in bytes) + 4) (corners mesh.triangles)
+  pub indexes : HasIndexes (index_width (vertices_in bytes)) bytes (index_data_at (vertices_in bytes) + 4)
+      (corners mesh.triangles)
   pub edge_counts : (edge : Edge) → number_at 4 bytes (edge_at bytes edge) ≡ length (edge_of mesh edge)
-  pub edges : (edge : Edge) → HasEntries (index_width (vertices_in bytes)) bytes (edge_at bytes edge + 4) (edge_of mesh edge)
+  pub edges : (edge : Edge) → HasEntries (index_width (vertices_in bytes)) bytes (edge_at bytes edge + 4)
+      (edge_of mesh edge)
   pub long_enough : extensions_at bytes ≤ length bytes
   pub to_the_end : drop (extensions_at bytes) bytes ≡ flat_map extension_text extensions
   pub are_extensions : All IsExtension extensions
 
 -- the bytes are a tile
 abbrev pub IsSomeTile : List ℕ → Type 0
-IsSomeTile bytes = (header : Header) × (mesh : Mesh) × (extensions : List ExtensionData) × Decodes bytes header mesh extensions
+IsSomeTile bytes = (header : Header) × (mesh : Mesh) × (extensions : List ExtensionData)
+    × Decodes bytes header mesh extensions

@@ -31,7 +31,8 @@ impl<'a> Model for EdgeIndexes<'a> {
 
     ghost Value = { List ℕ };
 
-    ghost view = { λ s. map (entry_at (index_width s.vertices) s.bytes.now s.at) (range_with_len s.next (s.count - s.next)) };
+    ghost view = { λ s. map (entry_at (index_width s.vertices) s.bytes.now s.at)
+        (range_with_len s.next (s.count - s.next)) };
 
     ghost invariant = { λ s. IsListRead s.bytes.now s.vertices s.at s.count s.next };
 }

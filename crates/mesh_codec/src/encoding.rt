@@ -142,7 +142,8 @@ fn put_triangles(out: &mut Vec<u8>, triangles: &[Indexes], vertices: u32) -> Res
     requires vertices { All (IsTriangle vertices) triangles.now }
     requires in_order { AreWithinMark 0 (corners triangles.now) }
     requires reaches_back { vertices ≢ 65536 }
-    ensures { OnOk result (out.new.items ≡ out.old.items ++ indexes_text (index_width vertices) 0 (corners triangles.now)) }
+    ensures { OnOk result (out.new.items
+        ≡ out.old.items ++ indexes_text (index_width vertices) 0 (corners triangles.now)) }
 {
     let mut mark = 0;
     for triangle in triangles {
@@ -169,7 +170,9 @@ fn put_edge(out: &mut Vec<u8>, list: &[u32], vertices: u32) -> Result<(), NoMemo
 
 /// Adds the vertices of a mesh.
 fn put_vertices(out: &mut Vec<u8>, mesh: &CodeMesh) -> Result<(), NoMemory>
-    ensures { OnOk result (out.new.items ≡ out.old.items ++ (little_bytes 4 (length mesh.now.vertices) ++ (arrays_text mesh.now ++ padding_text (length mesh.now.vertices)))) }
+    ensures { OnOk result (out.new.items
+        ≡ out.old.items ++ (little_bytes 4 (length mesh.now.vertices)
+        ++ (arrays_text mesh.now ++ padding_text (length mesh.now.vertices)))) }
 {
     let vertices = mesh.codes();
     put_long(out, mesh.vertices())?;
@@ -184,7 +187,9 @@ fn put_vertices(out: &mut Vec<u8>, mesh: &CodeMesh) -> Result<(), NoMemory>
 fn put_indexes(out: &mut Vec<u8>, mesh: &CodeMesh) -> Result<(), NoMemory>
     requires in_order { AreWithinMark 0 (corners mesh.now.triangles) }
     requires reaches_back { length mesh.now.vertices ≢ 65536 }
-    ensures { OnOk result (out.new.items ≡ out.old.items ++ (triangles_text (index_width (length mesh.now.vertices)) mesh.now ++ edges_text (index_width (length mesh.now.vertices)) mesh.now)) }
+    ensures { OnOk result (out.new.items
+        ≡ out.old.items ++ (triangles_text (index_width (length mesh.now.vertices)) mesh.now
+        ++ edges_text (index_width (length mesh.now.vertices)) mesh.now)) }
 {
     let vertices = mesh.vertices();
     let triangles = mesh.triangles();

@@ -11,7 +11,8 @@ use crate::number::long;
 #[tactic(auto, unfolding(crate::specs::Extension::extension_end))]
 pub(crate) fn end_of(bytes: &[u8], at: usize) -> Option<usize>
     requires { at < length bytes.now }
-    ensures { result ≡ (if nat_lt (length bytes.now) (extension_end bytes.now at) then None else Some (extension_end bytes.now at)) }
+    ensures { result ≡ (if nat_lt (length bytes.now) (extension_end bytes.now at) then None else Some
+        (extension_end bytes.now at)) }
 {
     if bytes.len() - at < 5 {
         return None;

@@ -52,7 +52,8 @@ pub(crate) fn entry(bytes: &[u8], vertices: u32, at: usize, k: u64) -> u32
 /// The mark behind an index, if it is one of so many vertices.
 fn next_mark(vertices: u32, mark: u32, code: u32) -> Option<u32>
     requires { mark ≤ vertices }
-    ensures mark { result ≡ (if is_no_vertex vertices mark code then None else Some (if code == 0 then mark + 1 else mark)) }
+    ensures mark { result ≡ (if is_no_vertex vertices mark code then None else Some
+        (if code == 0 then mark + 1 else mark)) }
     ensures few { IfSome result (λ next. next ≤ vertices) }
 {
     if mark < code {

@@ -64,7 +64,8 @@ impl CodeMesh {
         requires v { v ≤ 32767 }
         requires height { height ≤ 32767 }
         requires room { length self.old.vertices < 2 ^ 32 - 1 }
-        ensures ok { OnOk result (self.new ≡ record self.old { vertices = self.old.vertices ++ record { u = u; v = v; height = height } ∷ [] }) }
+        ensures ok { OnOk result (self.new
+            ≡ record self.old { vertices = self.old.vertices ++ record { u = u; v = v; height = height } ∷ [] }) }
         ensures err { OnErr result (self.new ≡ self.old) }
     {
         self.vertices.push(Codes { u, v, height })?;
@@ -77,7 +78,8 @@ impl CodeMesh {
         requires b { b < length self.old.vertices }
         requires c { c < length self.old.vertices }
         requires room { length self.old.triangles < 2 ^ 32 - 1 }
-        ensures ok { OnOk result (self.new ≡ record self.old { triangles = self.old.triangles ++ record { a = a; b = b; c = c } ∷ [] }) }
+        ensures ok { OnOk result (self.new
+            ≡ record self.old { triangles = self.old.triangles ++ record { a = a; b = b; c = c } ∷ [] }) }
         ensures err { OnErr result (self.new ≡ self.old) }
     {
         self.triangles.push(Indexes { a, b, c })?;

@@ -174,7 +174,8 @@ fn mark_over(mark: u32, index: u32) -> Option<u32>
 
 /// The mark behind a triangle, where its corners are within the marks.
 fn mark_behind(mark: u32, triangle: &Indexes) -> Option<u32>
-    ensures { IfSome result (λ next. (before : List ℕ) → IsByFirstUse mark before → IsByFirstUse next (((before ++ triangle.now.a ∷ []) ++ triangle.now.b ∷ []) ++ triangle.now.c ∷ [])) }
+    ensures { IfSome result (λ next. (before : List ℕ) → IsByFirstUse mark before
+        → IsByFirstUse next (((before ++ triangle.now.a ∷ []) ++ triangle.now.b ∷ []) ++ triangle.now.c ∷ [])) }
 {
     let second = mark_over(mark, triangle.a)?;
     let third = mark_over(second, triangle.b)?;

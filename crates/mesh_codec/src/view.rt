@@ -50,7 +50,8 @@ impl<'a> TileView<'a> {
     pub fn read(bytes: &'a [u8]) -> Result<TileView<'a>, TileRefusal>
         ensures ok { IsOk result ↔ IsSomeTile bytes.now }
         ensures view { IfOk result (λ view. view ≡ bytes.now) }
-        ensures tile { OnOk result (Decodes bytes.now (header_in bytes.now) (mesh_in bytes.now) (extension_list bytes.now)) }
+        ensures tile { OnOk result (Decodes bytes.now (header_in bytes.now) (mesh_in bytes.now)
+            (extension_list bytes.now)) }
         // It is the first whose condition holds, and there is none where the bytes are a tile.
         ensures refusal { result_err result ≡ tile_refusal_of bytes.now }
     {

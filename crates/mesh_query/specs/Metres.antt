@@ -14,7 +14,8 @@ pub record AreHeights (header : Header) (least greatest : ℤ) : Type 0 where
   pub greatest_size : unsigned_abs greatest < 2 ^ 24
   pub greatest_is : IsBits32 greatest header.greatest
 
--- the height code is so many whole metres, within 65535: code 0 is the least height and 32767 the greatest, linear between
+-- the height code is so many whole metres, within 65535: code 0 is the least height and 32767 the greatest, linear
+-- between
 pub record IsMetres (least greatest : ℤ) (code : ℕ) (metres : ℤ) : Type 0 where
   pub linear : (metres -ℤ least) *ℤ pos 32767 ≡ pos code *ℤ (greatest -ℤ least)
   pub size : unsigned_abs metres ≤ 65535

@@ -24,7 +24,8 @@ fn add_crossing(
     requires b { IsOnTile b.now }
     requires a_low { IsLow a.now }
     requires b_low { IsLow b.now }
-    ensures { OnOk result ((sides : List Side) → AreCrossings (at_place from.now) (at_place to.now) sides found.old.items
+    ensures { OnOk result ((sides : List Side)
+        → AreCrossings (at_place from.now) (at_place to.now) sides found.old.items
         → AreCrossings (at_place from.now) (at_place to.now) (sides ++ side a.now b.now ∷ []) found.new.items) }
 {
     match cross_out(from, to, a, b) {
@@ -42,7 +43,8 @@ fn add_sides(found: &mut Vec<Ranked>, from: &Place, to: &Place, tri: &Tri) -> Re
     requires to { IsTilePoint (pos 1) to.now.u to.now.v }
     requires tri { IsTileTri tri.now }
     requires low { IsLowTri tri.now }
-    ensures { OnOk result ((sides : List Side) → AreCrossings (at_place from.now) (at_place to.now) sides found.old.items
+    ensures { OnOk result ((sides : List Side)
+        → AreCrossings (at_place from.now) (at_place to.now) sides found.old.items
         → AreCrossings (at_place from.now) (at_place to.now) (sides ++ sides_of tri.now) found.new.items) }
 {
     add_crossing(found, from, to, &tri.a, &tri.b)?;
@@ -65,7 +67,8 @@ pub(crate) fn crossings_of(
     requires to { IsTilePoint (pos 1) to.now.u to.now.v }
     requires tris { All IsTileTri tris.now }
     requires low { All IsLowTri tris.now }
-    ensures { IfOk result (λ found. AreCrossings (at_place from.now) (at_place to.now) (all_sides tris.now) found.items) }
+    ensures { IfOk result (λ found.
+        AreCrossings (at_place from.now) (at_place to.now) (all_sides tris.now) found.items) }
 {
     let mut found = Vec::new(alloc);
     for tri in tris {

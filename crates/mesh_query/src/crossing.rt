@@ -69,7 +69,8 @@ fn fall_of(from: &Place, to: &Place, a: &Corner, b: &Corner) -> i64
     requires to { IsTilePoint (pos 1) to.now.u to.now.v }
     requires a { IsOnTile a.now }
     requires b { IsOnTile b.now }
-    ensures value { result ≡ side_of a.now b.now (pos 1) from.now.u from.now.v -ℤ side_of a.now b.now (pos 1) to.now.u to.now.v }
+    ensures value { result ≡ side_of a.now b.now (pos 1) from.now.u from.now.v -ℤ side_of a.now b.now (pos 1)
+        to.now.u to.now.v }
     ensures size { unsigned_abs result ≤ 2147352578 }
 {
     turn(
@@ -80,8 +81,8 @@ fn fall_of(from: &Place, to: &Place, a: &Corner, b: &Corner) -> i64
     )
 }
 
-/// How far a corner is to the left of the segment: twice the area of the triangle of the two places and the corner, below 0
-/// where the corner is to the right.
+/// How far a corner is to the left of the segment: twice the area of the triangle of the two places and the corner,
+/// below 0 where the corner is to the right.
 pub fn aside_of(from: &Place, to: &Place, corner: &Corner) -> i64
     requires from { IsTilePoint (pos 1) from.now.u from.now.v }
     requires to { IsTilePoint (pos 1) to.now.u to.now.v }
@@ -107,8 +108,8 @@ pub(crate) fn weighed(weight: i64, height: i32) -> i64
     weight * i64::from(height)
 }
 
-/// Where the segment crosses the side from `a` to `b` from its left to its right, and the height of the side there. None where
-/// it does not.
+/// Where the segment crosses the side from `a` to `b` from its left to its right, and the height of the side there.
+/// None where it does not.
 pub fn cross_out(from: &Place, to: &Place, a: &Corner, b: &Corner) -> Option<Crossing>
     requires from { IsTilePoint (pos 1) from.now.u from.now.v }
     requires to { IsTilePoint (pos 1) to.now.u to.now.v }

@@ -39,7 +39,8 @@ is_held u v t =
     int_le (pos 0) (side_of t.a t.b (pos 648000) u v)
     && (int_le (pos 0) (side_of t.b t.c (pos 648000) u v) && int_le (pos 0) (side_of t.c t.a (pos 648000) u v))
 
--- how far the plane of the triangle is from a height there, in whole metres rounded up; 0 where it does not hold the point
+-- how far the plane of the triangle is from a height there, in whole metres rounded up; 0 where it does not hold the
+-- point
 abbrev pub gap_at : ℤ → ℤ → ℤ → Tri → ℕ
 gap_at u v metres t =
     if is_held u v t then unsigned_abs (ceil_of (gap_over t (pos 648000) u v metres) (gap_under t (pos 648000))) else 0
@@ -48,7 +49,8 @@ gap_at u v metres t =
 abbrev pub gap_of_post : TileId → List Tri → CellKey → ℕ → ℕ → Post → ℕ
 gap_of_post tile ts key col row Void = 0
 gap_of_post tile ts key col row (Metres metres) =
-    greatest_of (λ turns. greatest_of (gap_at (across tile (seconds_east key col) turns) (along tile (seconds_north key row)) metres) ts)
+    greatest_of (λ turns. greatest_of
+    (gap_at (across tile (seconds_east key col) turns) (along tile (seconds_north key row)) metres) ts)
     (negsuc 0 ∷ pos 0 ∷ pos 1 ∷ [])
 
 -- over the posts of a cell

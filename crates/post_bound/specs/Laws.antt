@@ -26,7 +26,8 @@ SweptLaw = (cells : Cells) (tile : TileId) (ts : List Tri) (bound : ℕ) → 6 �
 
 -- there is one bound
 abbrev pub OneBoundLaw : Type 0
-OneBoundLaw = (cells : Cells) (tile : TileId) (ts : List Tri) (a b : ℕ) → IsPostBound cells tile ts a → IsPostBound cells tile ts b → a ≡ b
+OneBoundLaw = (cells : Cells) (tile : TileId) (ts : List Tri) (a b : ℕ) → IsPostBound cells tile ts a
+    → IsPostBound cells tile ts b → a ≡ b
 
 -- at every level the number is the bound, of any triangles that are counter-clockwise on the tile
 abbrev pub PostBoundLaw : Type 0
@@ -41,7 +42,8 @@ SpanBoundLaw = (summaries : List Summary) (tile : TileId) (grid : List ℤ) (z :
 -- and it is a bound at posts, at every level
 abbrev pub SpanKeepsLaw : Type 0
 SpanKeepsLaw = (cells : Cells) (tile : TileId) (grid : List ℤ) (z : ℕ) → AreSound cells → IsGrid grid
-    → let mesh = mesh_of_grid grid z in KeepsBound cells tile (triangles_in mesh) (span_bound_of (summaries_of cells) tile mesh)
+    → let mesh = mesh_of_grid grid z in KeepsBound cells tile (triangles_in mesh)
+    (span_bound_of (summaries_of cells) tile mesh)
 
 -- the mesh of each grid keeps the bound that the note prints
 abbrev pub BoundKeepsLaw : Type 0

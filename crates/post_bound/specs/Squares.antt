@@ -8,7 +8,8 @@ use Rattle.mesh_plane.specs.declared.corner.Tri.{Tri}
 use Rattle.post_bound.specs.Window.{WindowGap}
 
 -- a gap at a cell of a key, so many turns of the globe further, that P names
-pub record GapAmong (P : CellKey → ℤ → Type 0) (cells : Cells) (tile : TileId) (ts : List Tri) (gap : ℕ) (under : ℤ) : Type 0 where
+pub record GapAmong (P : CellKey → ℤ → Type 0) (cells : Cells) (tile : TileId) (ts : List Tri) (gap : ℕ)
+    (under : ℤ) : Type 0 where
   pub key : CellKey
   pub turns : ℤ
   pub named : P key turns

@@ -14,7 +14,8 @@ use Rattle.post_bound.specs.Posts.{IsPostOf}
 
 -- the fraction gap/under is the difference of a triangle's plane and a post of the key's cell that it holds, at the
 -- point (u/10125, v/10125)
-pub record WindowGap (cells : Cells) (tile : TileId) (ts : List Tri) (key : CellKey) (turns : ℤ) (gap : ℕ) (under : ℤ) : Type 0 where
+pub record WindowGap (cells : Cells) (tile : TileId) (ts : List Tri) (key : CellKey) (turns : ℤ) (gap : ℕ)
+    (under : ℤ) : Type 0 where
   pub tri : Tri
   pub u : ℤ
   pub v : ℤ
@@ -26,7 +27,8 @@ pub record WindowGap (cells : Cells) (tile : TileId) (ts : List Tri) (key : Cell
   pub size : pos gap ≡ gap_over tri (pos 10125) u v metres
 
 -- a gap of the window at one of the first triangles
-pub record OfTriangles (cells : Cells) (key : CellKey) (ts : List Tri) (east north : Axis) (end gap : ℕ) (under : ℤ) : Type 0 where
+pub record OfTriangles (cells : Cells) (key : CellKey) (ts : List Tri) (east north : Axis) (end gap : ℕ)
+    (under : ℤ) : Type 0 where
   pub tri : Tri
   pub index : ℕ
   pub before : index < end
@@ -41,7 +43,8 @@ place_in seconds k stripe step i = ((seconds +ℤ pos (i * step)) *ℤ k -ℤ po
 -- the columns and the rows of the key's cell over the tile, so many turns of the globe further
 pub record AreColumns (tile : TileId) (key : CellKey) (turns : ℤ) (east : Axis) : Type 0 where
   pub points : (i : ℕ) → point_of east i
-      ≡ place_in (pos (3600 * key.square.lon) +ℤ turns *ℤ pos 1296000) (pos (2 ^ (tile.z - 6))) tile.x (lon_step_of key.square key.level) i
+      ≡ place_in (pos (3600 * key.square.lon) +ℤ turns *ℤ pos 1296000) (pos (2 ^ (tile.z - 6))) tile.x
+      (lon_step_of key.square key.level) i
   pub from : east.from ≡ 0
   pub to : east.to ≡ columns_of key.square key.level
 

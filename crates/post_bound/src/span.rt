@@ -50,8 +50,8 @@ fn one_span(tile: TileId, least: i16, most: i16, cell: Summary) -> u32
 }
 
 /// The error bound of a tile below level 8, in metres: the greatest of 0 and, over the cells that touch the tile and
-/// have extremes, the greatest post less the least vertex and the greatest vertex less the least post. The summaries may
-/// stand in any order.
+/// have extremes, the greatest post less the least vertex and the greatest vertex less the least post. The summaries
+/// may stand in any order.
 pub fn span_bound(summaries: &[Summary], tile: TileId, mesh: &TileMesh) -> u32
     requires below { tile.z < 8 }
     ensures { result ≡ span_bound_of summaries.now tile mesh.now }

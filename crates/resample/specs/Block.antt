@@ -23,8 +23,9 @@ HasHeight fill cells tile grid i j = height_in grid i j ≡ height_at fill cells
 abbrev pub IsFrom : ℕ → ℕ → ℕ → Type 0
 IsFrom first end k = (first ≤ k) × (k < end)
 
--- from the one grid to the other, the points of the columns from `west` to before `east` and of the rows from `south` to
--- before `north` got their heights, and no point lost its own
+-- from the one grid to the other, the points of the columns from `west` to before `east` and of the rows from `south`
+-- to before `north` got their heights, and no point lost its own
 abbrev pub Fills : ℤ → Cells → TileId → ℕ → ℕ → ℕ → ℕ → List ℤ → List ℤ → Type 0
 Fills fill cells tile west east south north grid grid' = (i j : ℕ) → i ≤ 66 → j ≤ 66
-    → (IsFrom west east i × IsFrom south north j) ⊎ HasHeight fill cells tile grid i j → HasHeight fill cells tile grid' i j
+    → (IsFrom west east i × IsFrom south north j) ⊎ HasHeight fill cells tile grid i j
+    → HasHeight fill cells tile grid' i j

@@ -24,17 +24,21 @@ TurnChangesNothing = (fill : ℤ) (cells : Cells) (a b : Place) → IsPlace a �
 
 -- the height depends on the cells alone that hold the place
 abbrev pub HeightIsLocal : Type 0
-HeightIsLocal = (fill : ℤ) (cells others : Cells) (place : Place) → IsPlace place → ((key : CellKey) → Holds (square_rectangle key.square) (point_of place) → get cells key ≡ get others key)
+HeightIsLocal = (fill : ℤ) (cells others : Cells) (place : Place) → IsPlace place
+    → ((key : CellKey) → Holds (square_rectangle key.square) (point_of place) → get cells key ≡ get others key)
     → height_at fill cells place ≡ height_at fill others place
 
 -- the grid depends on the cells alone that touch the tile
 abbrev pub GridIsLocal : Type 0
-GridIsLocal = (fill : ℤ) (cells others : Cells) (tile : TileId) → ((key : CellKey) → touches_of tile key.square ≡ true → get cells key ≡ get others key)
+GridIsLocal = (fill : ℤ) (cells others : Cells) (tile : TileId)
+    → ((key : CellKey) → touches_of tile key.square ≡ true → get cells key ≡ get others key)
     → grid_of fill cells tile ≡ grid_of fill others tile
 
 -- heights are from -16000 to 16000 metres
 abbrev pub HeightsInRange : Type 0
-HeightsInRange = (fill : ℤ) (cells : Cells) (place : Place) → IsHeight fill → AreSound cells → IsPlace place → IsHeight (height_at fill cells place)
+HeightsInRange = (fill : ℤ) (cells : Cells) (place : Place) → IsHeight fill → AreSound cells → IsPlace place
+    → IsHeight (height_at fill cells place)
 
 abbrev pub GridsInRange : Type 0
-GridsInRange = (fill : ℤ) (cells : Cells) (tile : TileId) → IsHeight fill → AreSound cells → IsGrid (grid_of fill cells tile)
+GridsInRange = (fill : ℤ) (cells : Cells) (tile : TileId) → IsHeight fill → AreSound cells
+    → IsGrid (grid_of fill cells tile)

@@ -6,8 +6,8 @@ use Rattle.resample.specs.declared.line.Line.{Line}
 use Rattle.resample.specs.declared.grid_lines.GridLines.{GridLines}
 use Rattle.resample.specs.declared.grid_lines.Run.{Run}
 
--- the line lies so many units of a degree over d from the first degree: whole degrees and the rest; and in a cell with so
--- many posts a degree, the post before it and the way beyond, in steps over d
+-- the line lies so many units of a degree over d from the first degree: whole degrees and the rest; and in a cell with
+-- so many posts a degree, the post before it and the way beyond, in steps over d
 pub record IsLine (units d : ℕ) (line : Line) : Type 0 where
   pub degrees : line.degrees ≡ units / d
   pub rest : line.rest ≡ units % d

@@ -7,8 +7,8 @@ use crate::grid_lines::Run;
 use cell_mosaic::PostSource;
 use terrain_base::{CellLevel, Square, TileId};
 
-/// The grid points of a run of columns and a run of rows of a tile, the square that they lie in, if they lie on no whole
-/// degree, and the finest level of its cells.
+/// The grid points of a run of columns and a run of rows of a tile, the square that they lie in, if they lie on no
+/// whole degree, and the finest level of its cells.
 #[derive(Drop)]
 pub(crate) struct Block {
     pub(crate) tile: TileId,

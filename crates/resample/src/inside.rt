@@ -88,8 +88,10 @@ pub(crate) fn inside<P: PostSource, S: Store>(
     requires fill { IsHeight fill }
     requires place { IsPlace place }
     requires finest { block.now.finest ≡ finest_of (P.shapes src.old) block.now.square }
-    requires east { IsLine (180 * place.p) place.d east.now × (0 < east.now.rest) × (block.now.square.lon ≡ east.now.degrees) }
-    requires north { IsLine (180 * place.q) place.d north.now × (0 < north.now.rest) × (block.now.square.lat ≡ north.now.degrees) }
+    requires east { IsLine (180 * place.p) place.d east.now × (0 < east.now.rest)
+        × (block.now.square.lon ≡ east.now.degrees) }
+    requires north { IsLine (180 * place.q) place.d north.now × (0 < north.now.rest)
+        × (block.now.square.lat ≡ north.now.degrees) }
     ensures value { GivesTold (P.cells src.old (S.holds store.old))
         (λ told. height_at fill told place) result }
     ensures height { IfOk result IsHeight }

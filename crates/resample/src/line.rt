@@ -2,8 +2,8 @@
 ghost use Rattle.std.specs.Prelude.{◌≡◌, ℕ, ◌<◌, ◌≤◌, ◌^◌};
 ghost use Rattle.resample.specs.Line.{IsLine};
 
-/// A grid line: whole degrees, rounded down, and the rest in units of a degree over `d`; and in a cell with so many posts
-/// a degree, the post before the line and the way beyond it, in steps over `d`.
+/// A grid line: whole degrees, rounded down, and the rest in units of a degree over `d`; and in a cell with so many
+/// posts a degree, the post before the line and the way beyond it, in steps over `d`.
 #[derive(Clone, Copy)]
 pub(crate) struct Line {
     pub(crate) degrees: u64,

@@ -30,8 +30,10 @@ fn point<P: PostSource, S: Store>(
     requires fill { IsHeight fill }
     requires place { IsPlace place }
     requires finest { block.now.finest ≡ finest_of (P.shapes src.old) block.now.square }
-    requires east { IsLine (180 * place.p) place.d east.now × (0 < east.now.rest → block.now.square.lon ≡ east.now.degrees) }
-    requires north { IsLine (180 * place.q) place.d north.now × (0 < north.now.rest → block.now.square.lat ≡ north.now.degrees) }
+    requires east { IsLine (180 * place.p) place.d east.now
+        × (0 < east.now.rest → block.now.square.lon ≡ east.now.degrees) }
+    requires north { IsLine (180 * place.q) place.d north.now
+        × (0 < north.now.rest → block.now.square.lat ≡ north.now.degrees) }
     ensures value { GivesTold (P.cells src.old (S.holds store.old))
         (λ told. height_at fill told place) result }
     ensures height { IfOk result IsHeight }
@@ -83,7 +85,8 @@ fn fill_row<P: PostSource, S: Store>(
 
 /// Turns the lines of a block to its finest cell, so that its points find them so.
 fn turn_block(block: &Block, lines: &mut GridLines)
-    requires block { IsRun (row_units block.now.tile) (parts_of block.now.tile) block.now.rows × (block.now.columns.end ≤ 67) }
+    requires block { IsRun (row_units block.now.tile) (parts_of block.now.tile) block.now.rows
+        × (block.now.columns.end ≤ 67) }
     requires lines { AreGridLines block.now.tile lines.old }
     ensures { AreGridLines block.now.tile lines.new }
 {
@@ -167,7 +170,8 @@ pub fn tile_grid<P: PostSource, S: Store>(
     out: &mut Grid,
 ) -> Result<(), SourceFault>
     requires { IsHeight fill }
-    ensures value { OnOk result ((told : Cells) → P.cells src.old (S.holds store.old) ≡ Some told → out.new ≡ grid_of fill told tile) }
+    ensures value { OnOk result ((told : Cells) → P.cells src.old (S.holds store.old) ≡ Some told
+        → out.new ≡ grid_of fill told tile) }
     ensures leaves { Leaves P.cells P.shapes P.sure P.spoilt S.holds S.log S.faults
         src.old src.new store.old store.new result }
 {

@@ -11,8 +11,8 @@ use Rattle.sight_line.specs.declared.eye.SightAnswer.{SightAnswer}
 use Rattle.sight_line.specs.declared.eye.SightAnswer.TheVariants.{Clear, Blocked}
 use Rattle.sight_line.specs.Sight.{line_at, IsClear, IsUnder}
 
--- At the fraction `at` of the way, a break, the line is below the surface; at no break before it is it so. The surface and
--- the line have these heights there, and this is the least number of a triangle that holds the point.
+-- At the fraction `at` of the way, a break, the line is below the surface; at no break before it is it so. The surface
+-- and the line have these heights there, and this is the least number of a triangle that holds the point.
 pub record IsBlocked (ts : List Tri) (p : Point) (a : ℤ) (q : Point) (b : ℤ) (at : Ratio) (triangle : ℕ)
     (height line : Ratio) : Type 0 where
   pub at_lowest : IsLowest at

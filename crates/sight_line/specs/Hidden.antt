@@ -8,8 +8,8 @@ use Rattle.mesh_query.specs.Crossing.{CrossesOut, crossing, side_height}
 use Rattle.mesh_query.specs.Ratios.{IsBelow}
 use Rattle.sight_line.specs.Sight.{line_at}
 
--- the line from p, at the height a, to q, at the height b, crosses the side from c to d, from its left to its right, and is
--- below the side there
+-- the line from p, at the height a, to q, at the height b, crosses the side from c to d, from its left to its right,
+-- and is below the side there
 pub record IsCutOut (p : Point) (a : ℤ) (q : Point) (b : ℤ) (c d : Corner) : Type 0 where
   pub crosses : CrossesOut p q c d
   pub below : IsBelow (line_at a b (crossing p q c d)) (side_height p q c d)

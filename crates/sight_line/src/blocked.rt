@@ -68,8 +68,8 @@ fn holder_at(tris: &[Tri], line: &Line, at: Ratio) -> u32
     holder(tris, scale, u, v) as u32
 }
 
-/// Whether one point over the tile sees another, over another spot: `Clear` exactly where nowhere on the way the straight
-/// line between them is below the surface. A point below the surface sees nothing.
+/// Whether one point over the tile sees another, over another spot: `Clear` exactly where nowhere on the way the
+/// straight line between them is below the surface. A point below the surface sees nothing.
 pub fn sight(alloc: Global, field: &MeshField, from: Eye, to: Eye) -> Result<SightAnswer, NoMemory>
     requires from { IsEye from }
     requires to { IsEye to }

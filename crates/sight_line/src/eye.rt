@@ -14,8 +14,8 @@ pub struct Eye {
 pub enum SightAnswer {
     /// Nowhere on the way is the straight line below the surface.
     Clear,
-    /// The first break of the way at which the line is below the surface, as a fraction of the way; the least number of a
-    /// triangle that holds the point there; and both heights there, in metres. The fractions are in lowest terms.
+    /// The first break of the way at which the line is below the surface, as a fraction of the way; the least number of
+    /// a triangle that holds the point there; and both heights there, in metres. The fractions are in lowest terms.
     Blocked {
         at: Ratio,
         triangle: u32,

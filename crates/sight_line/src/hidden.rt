@@ -77,12 +77,13 @@ fn all_right(a: i64, b: i64, c: i64) -> bool
     a < 0 && b < 0 && c < 0
 }
 
-/// Whether all corners of a triangle lie on one side of the line, as seen from above, and none on it: such a triangle hides
-/// nothing, and most are such.
+/// Whether all corners of a triangle lie on one side of the line, as seen from above, and none on it: such a triangle
+/// hides nothing, and most are such.
 fn is_aside(line: &Line, tri: &Tri) -> bool
     requires line { IsLine line.now }
     requires tri { IsTileTri tri.now }
-    ensures { IsTrue result → ¬ Hides (at_place line.now.from) line.now.start (at_place line.now.to) line.now.end tri.now }
+    ensures { IsTrue result → ¬ Hides (at_place line.now.from) line.now.start (at_place line.now.to)
+        line.now.end tri.now }
 {
     let a = aside_of(&line.from, &line.to, &tri.a);
     let b = aside_of(&line.from, &line.to, &tri.b);
@@ -95,7 +96,8 @@ fn hides(line: &Line, tri: &Tri) -> bool
     requires line { IsLine line.now }
     requires tri { IsTileTri tri.now }
     requires low { IsLowTri tri.now }
-    ensures { IsTrue result ↔ Hides (at_place line.now.from) line.now.start (at_place line.now.to) line.now.end tri.now }
+    ensures { IsTrue result ↔ Hides (at_place line.now.from) line.now.start (at_place line.now.to)
+        line.now.end tri.now }
 {
     if is_aside(line, tri) {
         return false;
@@ -108,7 +110,8 @@ pub(crate) fn is_hidden(tris: &[Tri], line: &Line) -> bool
     requires line { IsLine line.now }
     requires tris { All IsTileTri tris.now }
     requires low { All IsLowTri tris.now }
-    ensures { IsTrue result ↔ Any (Hides (at_place line.now.from) line.now.start (at_place line.now.to) line.now.end) tris.now }
+    ensures { IsTrue result ↔ Any (Hides (at_place line.now.from) line.now.start (at_place line.now.to)
+        line.now.end) tris.now }
 {
     for tri in tris {
         if hides(line, tri) {

@@ -1,5 +1,5 @@
-//! Sight over the mesh of a stored tile, along straight lines in its two coordinates and its metres: whether one point sees
-//! another, and which vertices a point sees. The Earth's curvature is not in it.
+//! Sight over the mesh of a stored tile, along straight lines in its two coordinates and its metres: whether one point
+//! sees another, and which vertices a point sees. The Earth's curvature is not in it.
 #![tactic(auto)]
 
 mod blocked;

@@ -29,5 +29,6 @@ key_cmp a b = ordering_then (square_cmp a.square b.square) (nat_cmp (rank_of a.l
 
 pub keys_total : IsTotalOrder key_cmp
 keys_total =
-    then_total (then_total (on_total (λ (k : CellKey). k.square.lat) nat_cmp_total) (on_total (λ (k : CellKey). k.square.lon) nat_cmp_total))
+    then_total (then_total (on_total (λ (k : CellKey). k.square.lat) nat_cmp_total)
+    (on_total (λ (k : CellKey). k.square.lon) nat_cmp_total))
     (on_total (λ (k : CellKey). rank_of k.level) nat_cmp_total)

@@ -22,4 +22,5 @@ failed_of fails (suc calls) = failed_of fails calls + cond (is_some (find (λ fa
 -- before, as the entry says.
 abbrev pub FailsAs : {A T : Type 0} → Option Fail → A → A → A → Result T DeviceFault → Type 0
 FailsAs None done before now result = ¬ (IsErrOf result Failed)
-FailsAs (Some fail) done before now result = (¬ (IsOk result)) × (IsErrOf result Failed → now ≡ cond fail.applied done before)
+FailsAs (Some fail) done before now result = (¬ (IsOk result))
+    × (IsErrOf result Failed → now ≡ cond fail.applied done before)

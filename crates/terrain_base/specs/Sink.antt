@@ -14,6 +14,7 @@ FrontTaken None bytes taken' = taken' ≡ None
 FrontTaken (Some taken) bytes taken' = IsFront taken bytes taken'
 
 -- after Ok the bytes follow what was taken, after an error some first of them
-pub record Takes {T : Type 0} (bytes : List ℕ) (taken taken' : Option (List ℕ)) (result : Result T DeviceFault) : Type 0 where
+pub record Takes {T : Type 0} (bytes : List ℕ) (taken taken' : Option (List ℕ))
+    (result : Result T DeviceFault) : Type 0 where
   pub ok : OnOk result (taken' ≡ option_map (λ taken. taken ++ bytes) taken)
   pub err : OnErr result (FrontTaken taken bytes taken')

@@ -68,7 +68,8 @@ impl Eq for CellKey {
 impl PartialOrd for CellKey {
     ghost partial_cmp = { as_partial_cmp key_cmp };
 
-    ghost laws = { partial_order_from_own_ties (Prim.search (comparing, keys_total, rules)) (Prim.search (comparing, rules)) };
+    ghost laws = { partial_order_from_own_ties (Prim.search (comparing, keys_total, rules))
+        (Prim.search (comparing, rules)) };
 
     fn partial_cmp(&self, other: &CellKey) -> Option<Ordering> {
         Some(self.cmp(other))

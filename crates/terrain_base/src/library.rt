@@ -28,7 +28,8 @@ pub trait Library {
     /// All the bytes under the name, if it is held with at most `limit` bytes. A fetch changes
     /// nothing that is held, whatever it answers.
     fn fetch(&mut self, name: &str, limit: usize) -> Result<Fetched, DeviceFault>
-        ensures fetched { IfOk result (λ fetched. IfSome (holds self.old) (λ files. Fetches fetched (map.get files name.now) limit)) }
+        ensures fetched { IfOk result (λ fetched.
+            IfSome (holds self.old) (λ files. Fetches fetched (map.get files name.now) limit)) }
         ensures same { holds self.new ≡ holds self.old }
         ensures cause { HasCause (faults self.old) (faults self.new) result };
 }

@@ -38,8 +38,10 @@ impl MemLibrary {
     /// Holds the bytes under the name, in place of what it held there. Want of memory changes
     /// nothing.
     pub fn hold(&mut self, name: &str, bytes: &[u8]) -> Result<(), NoMemory>
-        ensures ok { OnOk result (⟦<MemLibrary as Library>⟧.holds self.new ≡ option_map (λ files. map.insert files name.now bytes.now) (⟦<MemLibrary as Library>⟧.holds self.old)) }
-        ensures err { OnErr result (⟦<MemLibrary as Library>⟧.holds self.new ≡ ⟦<MemLibrary as Library>⟧.holds self.old) }
+        ensures ok { OnOk result (⟦<MemLibrary as Library>⟧.holds self.new
+            ≡ option_map (λ files. map.insert files name.now bytes.now) (⟦<MemLibrary as Library>⟧.holds self.old)) }
+        ensures err { OnErr result (⟦<MemLibrary as Library>⟧.holds self.new
+            ≡ ⟦<MemLibrary as Library>⟧.holds self.old) }
         ensures faults { ⟦<MemLibrary as Library>⟧.faults self.new ≡ ⟦<MemLibrary as Library>⟧.faults self.old }
         ensures fails { library_fails self.new ≡ library_fails self.old }
         ensures calls { library_calls self.new ≡ library_calls self.old }
@@ -54,11 +56,14 @@ impl Library for MemLibrary {
     ghost faults = { λ s. failed_of s.fails.items s.calls };
 
     fn fetch(&mut self, name: &str, limit: usize) -> Result<Fetched, DeviceFault>
-        ensures fetched { IfOk result (λ fetched. IfSome (⟦<MemLibrary as Library>⟧.holds self.old) (λ files. Fetches fetched (map.get files name.now) limit)) }
+        ensures fetched { IfOk result (λ fetched.
+            IfSome (⟦<MemLibrary as Library>⟧.holds self.old)
+            (λ files. Fetches fetched (map.get files name.now) limit)) }
         ensures same { ⟦<MemLibrary as Library>⟧.holds self.new ≡ ⟦<MemLibrary as Library>⟧.holds self.old }
         ensures cause { HasCause (⟦<MemLibrary as Library>⟧.faults self.old) (⟦<MemLibrary as Library>⟧.faults self.new) result }
         // It fails exactly at the calls of the list.
-        ensures failing { IsErrOf result DeviceFault.Failed ↔ IsTrue (is_some (fail_at (library_fails self.old) (library_calls self.old))) }
+        ensures failing { IsErrOf result DeviceFault.Failed
+            ↔ IsTrue (is_some (fail_at (library_fails self.old) (library_calls self.old))) }
         ensures fails { library_fails self.new ≡ library_fails self.old }
         ensures calls { library_calls self.new ≡ call_after (library_calls self.old) }
     {

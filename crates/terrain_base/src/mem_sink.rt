@@ -49,10 +49,13 @@ impl Sink for MemSink {
     ghost faults = { λ s. failed_of s.fails.items s.calls };
 
     fn put(&mut self, bytes: &[u8]) -> Result<(), DeviceFault>
-        ensures takes { Takes bytes.now (⟦<MemSink as Sink>⟧.taken self.old) (⟦<MemSink as Sink>⟧.taken self.new) result }
+        ensures takes { Takes bytes.now (⟦<MemSink as Sink>⟧.taken self.old)
+            (⟦<MemSink as Sink>⟧.taken self.new) result }
         ensures cause { HasCause (⟦<MemSink as Sink>⟧.faults self.old) (⟦<MemSink as Sink>⟧.faults self.new) result }
         // It fails exactly at the calls of the list, and then takes all or nothing.
-        ensures failing { FailsAs (fail_at (sink_fails self.old) (sink_calls self.old)) (option_map (λ taken. taken ++ bytes.now) (⟦<MemSink as Sink>⟧.taken self.old)) (⟦<MemSink as Sink>⟧.taken self.old) (⟦<MemSink as Sink>⟧.taken self.new) result }
+        ensures failing { FailsAs (fail_at (sink_fails self.old) (sink_calls self.old))
+            (option_map (λ taken. taken ++ bytes.now) (⟦<MemSink as Sink>⟧.taken self.old))
+            (⟦<MemSink as Sink>⟧.taken self.old) (⟦<MemSink as Sink>⟧.taken self.new) result }
         ensures fails { sink_fails self.new ≡ sink_fails self.old }
         ensures calls { sink_calls self.new ≡ call_after (sink_calls self.old) }
     {

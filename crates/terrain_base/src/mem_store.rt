@@ -52,12 +52,14 @@ impl Store for MemStore {
     ghost faults = { λ store. failed_of store.fails.items store.calls };
 
     fn get(&mut self, name: &Name) -> Result<Option<Vec<u8>>, DeviceFault>
-        ensures found { IfOk result (λ found. IfSome (⟦<MemStore as Store>⟧.holds self.old) (λ files. items_of found ≡ map.get files name.now)) }
+        ensures found { IfOk result (λ found.
+            IfSome (⟦<MemStore as Store>⟧.holds self.old) (λ files. items_of found ≡ map.get files name.now)) }
         ensures same { ⟦<MemStore as Store>⟧.holds self.new ≡ ⟦<MemStore as Store>⟧.holds self.old }
         ensures quiet { ⟦<MemStore as Store>⟧.log self.new ≡ ⟦<MemStore as Store>⟧.log self.old }
         ensures cause { HasCause (⟦<MemStore as Store>⟧.faults self.old) (⟦<MemStore as Store>⟧.faults self.new) result }
         // It fails exactly at the calls of the list.
-        ensures failing { IsErrOf result DeviceFault.Failed ↔ IsTrue (is_some (fail_at (store_fails self.old) (store_calls self.old))) }
+        ensures failing { IsErrOf result DeviceFault.Failed
+            ↔ IsTrue (is_some (fail_at (store_fails self.old) (store_calls self.old))) }
         ensures fails { store_fails self.new ≡ store_fails self.old }
         ensures calls { store_calls self.new ≡ call_after (store_calls self.old) }
     {
@@ -68,10 +70,14 @@ impl Store for MemStore {
     }
 
     fn put(&mut self, name: &Name, bytes: &[u8]) -> Result<(), DeviceFault>
-        ensures does { Does (Write name.now bytes.now) (⟦<MemStore as Store>⟧.holds self.old) (⟦<MemStore as Store>⟧.log self.old) (⟦<MemStore as Store>⟧.holds self.new) (⟦<MemStore as Store>⟧.log self.new) result }
+        ensures does { Does (Write name.now bytes.now) (⟦<MemStore as Store>⟧.holds self.old)
+            (⟦<MemStore as Store>⟧.log self.old) (⟦<MemStore as Store>⟧.holds self.new)
+            (⟦<MemStore as Store>⟧.log self.new) result }
         ensures cause { HasCause (⟦<MemStore as Store>⟧.faults self.old) (⟦<MemStore as Store>⟧.faults self.new) result }
         // It fails exactly at the calls of the list, and then does all or nothing.
-        ensures failing { FailsAs (fail_at (store_fails self.old) (store_calls self.old)) (held_after (Write name.now bytes.now) (⟦<MemStore as Store>⟧.holds self.old)) (⟦<MemStore as Store>⟧.holds self.old) (⟦<MemStore as Store>⟧.holds self.new) result }
+        ensures failing { FailsAs (fail_at (store_fails self.old) (store_calls self.old))
+            (held_after (Write name.now bytes.now) (⟦<MemStore as Store>⟧.holds self.old))
+            (⟦<MemStore as Store>⟧.holds self.old) (⟦<MemStore as Store>⟧.holds self.new) result }
         ensures fails { store_fails self.new ≡ store_fails self.old }
         ensures calls { store_calls self.new ≡ call_after (store_calls self.old) }
     {
@@ -89,10 +95,13 @@ impl Store for MemStore {
     }
 
     fn delete(&mut self, name: &Name) -> Result<(), DeviceFault>
-        ensures does { Does (Erase name.now) (⟦<MemStore as Store>⟧.holds self.old) (⟦<MemStore as Store>⟧.log self.old) (⟦<MemStore as Store>⟧.holds self.new) (⟦<MemStore as Store>⟧.log self.new) result }
+        ensures does { Does (Erase name.now) (⟦<MemStore as Store>⟧.holds self.old) (⟦<MemStore as Store>⟧.log self.old)
+            (⟦<MemStore as Store>⟧.holds self.new) (⟦<MemStore as Store>⟧.log self.new) result }
         ensures cause { HasCause (⟦<MemStore as Store>⟧.faults self.old) (⟦<MemStore as Store>⟧.faults self.new) result }
         // It fails exactly at the calls of the list, and then does all or nothing.
-        ensures failing { FailsAs (fail_at (store_fails self.old) (store_calls self.old)) (held_after (Erase name.now) (⟦<MemStore as Store>⟧.holds self.old)) (⟦<MemStore as Store>⟧.holds self.old) (⟦<MemStore as Store>⟧.holds self.new) result }
+        ensures failing { FailsAs (fail_at (store_fails self.old) (store_calls self.old))
+            (held_after (Erase name.now) (⟦<MemStore as Store>⟧.holds self.old)) (⟦<MemStore as Store>⟧.holds self.old)
+            (⟦<MemStore as Store>⟧.holds self.new) result }
         ensures fails { store_fails self.new ≡ store_fails self.old }
         ensures calls { store_calls self.new ≡ call_after (store_calls self.old) }
     {
@@ -110,12 +119,14 @@ impl Store for MemStore {
     }
 
     fn names(&mut self) -> Result<Vec<Name>, DeviceFault>
-        ensures names { IfOk result (λ names. IfSome (⟦<MemStore as Store>⟧.holds self.old) (λ files. names.items ≡ map.keys files)) }
+        ensures names { IfOk result (λ names.
+            IfSome (⟦<MemStore as Store>⟧.holds self.old) (λ files. names.items ≡ map.keys files)) }
         ensures same { ⟦<MemStore as Store>⟧.holds self.new ≡ ⟦<MemStore as Store>⟧.holds self.old }
         ensures quiet { ⟦<MemStore as Store>⟧.log self.new ≡ ⟦<MemStore as Store>⟧.log self.old }
         ensures cause { HasCause (⟦<MemStore as Store>⟧.faults self.old) (⟦<MemStore as Store>⟧.faults self.new) result }
         // It fails exactly at the calls of the list.
-        ensures failing { IsErrOf result DeviceFault.Failed ↔ IsTrue (is_some (fail_at (store_fails self.old) (store_calls self.old))) }
+        ensures failing { IsErrOf result DeviceFault.Failed
+            ↔ IsTrue (is_some (fail_at (store_fails self.old) (store_calls self.old))) }
         ensures fails { store_fails self.new ≡ store_fails self.old }
         ensures calls { store_calls self.new ≡ call_after (store_calls self.old) }
     {

@@ -29,7 +29,8 @@ pub trait Store {
     /// The bytes held under the name. `None` exactly where it is not held. Changes nothing held and adds nothing
     /// to the log, whatever it answers.
     fn get(&mut self, name: &Name) -> Result<Option<Vec<u8>>, DeviceFault>
-        ensures found { IfOk result (λ found. IfSome (holds self.old) (λ files. items_of found ≡ map.get files name.now)) }
+        ensures found { IfOk result (λ found.
+            IfSome (holds self.old) (λ files. items_of found ≡ map.get files name.now)) }
         ensures same { holds self.new ≡ holds self.old }
         ensures quiet { log self.new ≡ log self.old }
         ensures cause { HasCause (faults self.old) (faults self.new) result };
@@ -37,7 +38,8 @@ pub trait Store {
     /// Holds the bytes under the name, and leaves every other name. After an error this one name is as before or
     /// holds the new bytes. It is in the log, whatever it answers; only at `NoMemory` it may be missing.
     fn put(&mut self, name: &Name, bytes: &[u8]) -> Result<(), DeviceFault>
-        ensures does { Does (Write name.now bytes.now) (holds self.old) (log self.old) (holds self.new) (log self.new) result }
+        ensures does { Does (Write name.now bytes.now) (holds self.old) (log self.old) (holds self.new)
+            (log self.new) result }
         ensures cause { HasCause (faults self.old) (faults self.new) result };
 
     /// Takes the name away, held or not, and leaves every other name. After an error this one name is as before or

@@ -36,8 +36,10 @@ impl SureLibrary {
     /// Holds the bytes under the name, in place of what it held there. Want of memory changes
     /// nothing.
     pub fn hold(&mut self, name: &str, bytes: &[u8]) -> Result<(), NoMemory>
-        ensures ok { OnOk result (⟦<SureLibrary as Library>⟧.holds self.new ≡ option_map (λ files. map.insert files name.now bytes.now) (⟦<SureLibrary as Library>⟧.holds self.old)) }
-        ensures err { OnErr result (⟦<SureLibrary as Library>⟧.holds self.new ≡ ⟦<SureLibrary as Library>⟧.holds self.old) }
+        ensures ok { OnOk result (⟦<SureLibrary as Library>⟧.holds self.new
+            ≡ option_map (λ files. map.insert files name.now bytes.now) (⟦<SureLibrary as Library>⟧.holds self.old)) }
+        ensures err { OnErr result (⟦<SureLibrary as Library>⟧.holds self.new
+            ≡ ⟦<SureLibrary as Library>⟧.holds self.old) }
     {
         let book = Book {
             name: name.as_bytes().to_vec(self.alloc)?,

@@ -40,7 +40,8 @@ impl SureStore {
     // Adds a change to the log and does not do it.
     pub(crate) fn note(&mut self, change: Change) -> Result<(), NoMemory>
         ensures same { ⟦<SureStore as Store>⟧.holds self.new ≡ ⟦<SureStore as Store>⟧.holds self.old }
-        ensures ok { OnOk result (⟦<SureStore as Store>⟧.log self.new ≡ option_map (λ log. log ++ change ∷ []) (⟦<SureStore as Store>⟧.log self.old)) }
+        ensures ok { OnOk result (⟦<SureStore as Store>⟧.log self.new
+            ≡ option_map (λ log. log ++ change ∷ []) (⟦<SureStore as Store>⟧.log self.old)) }
         ensures err { OnErr result (⟦<SureStore as Store>⟧.log self.new ≡ ⟦<SureStore as Store>⟧.log self.old) }
     {
         self.log.push(change)?;

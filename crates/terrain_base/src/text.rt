@@ -20,7 +20,8 @@ impl Model for Text {
 
     ghost view = { λ a. take a.len a.bytes };
 
-    ghost invariant = { λ a. (a.len ≤ 24) × (length (take a.len a.bytes) ≡ a.len) × (a.bytes ≡ in_room (take a.len a.bytes)) };
+    ghost invariant = { λ a. (a.len ≤ 24) × (length (take a.len a.bytes) ≡ a.len)
+        × (a.bytes ≡ in_room (take a.len a.bytes)) };
 
     ghost inverse = { λ text. record { bytes = in_room text; len = length text } };
 

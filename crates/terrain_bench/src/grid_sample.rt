@@ -18,8 +18,8 @@ fn mixed(hash: u64, number: u64) -> u64 {
     (hash ^ number).wrapping_mul(PRIME)
 }
 
-// The height in metres at a grid point of the grid of this number: a plane, a ridge, a step, noise, or a single peak that
-// is often near a border.
+// The height in metres at a grid point of the grid of this number: a plane, a ridge, a step, noise, or a single peak
+// that is often near a border.
 fn height(number: u64, i: u8, j: u8) -> i16
     ensures { IsHeight result }
 {

@@ -21,7 +21,8 @@ pub fn add_vertices(
     requires within { All (λ p. IsWithin frame.now p.metres) points.now }
     requires on_grid { All IsVertexOnGrid points.now }
     requires room { length coded.old.vertices + length points.now < 2 ^ 32 }
-    ensures { OnOk result (coded.new ≡ record coded.old { vertices = coded.old.vertices ++ map (codes_of frame.now) points.now }) }
+    ensures { OnOk result (coded.new
+        ≡ record coded.old { vertices = coded.old.vertices ++ map (codes_of frame.now) points.now }) }
 {
     for point in points {
         let height = code(frame, point.metres);

@@ -16,7 +16,8 @@ where_true false f = None
 -- the tile of this level, row and column, where there is one (TMS 1.0.0, global-geodetic)
 unfoldable pub tile_at : ℕ → ℕ → ℕ → Option TileId
 tile_at z row column =
-    where_true (nat_le z 14) (λ level. where_true (nat_lt row (2 ^ z)) (λ south. where_true (nat_lt column (2 ^ (z + 1))) (λ west.
+    where_true (nat_le z 14) (λ level.
+      where_true (nat_lt row (2 ^ z)) (λ south. where_true (nat_lt column (2 ^ (z + 1))) (λ west.
     Some (record {
       z = z;
       y = row;

@@ -1,4 +1,5 @@
--- Questions about the surface of a stored tile, and the tile in which a place is looked up (TMS, global-geodetic profile).
+-- Questions about the surface of a stored tile, and the tile in which a place is looked up (TMS, global-geodetic
+-- profile).
 use Rattle.std.specs.Prelude.{◌≡◌, ◌≢◌, ℕ, ℤ, pos, ◌-◌, ◌*◌, ◌/◌, ◌^◌, ◌≤◌, ◌-ℤ◌, ◌*ℤ◌, min}
 use Rattle.terrain_base.specs.declared.tile.TileId.{TileId}
 use Rattle.mesh_plane.specs.Plane.{Point, point}
@@ -8,8 +9,8 @@ use Rattle.sight_line.specs.Line.{IsEye}
 use Rattle.tile_query.specs.declared.question.Question.{Question}
 use Rattle.tile_query.specs.declared.question.Question.TheVariants.{Height, Profile, Sight, View}
 
--- A place is so many whole arc-seconds east of 180 degrees west and north of the south pole. Of a level z, whose tiles are
--- 648000/2^z arc-seconds long on each side, it is looked up in this tile. The north pole lies in the last row.
+-- A place is so many whole arc-seconds east of 180 degrees west and north of the south pole. Of a level z, whose tiles
+-- are 648000/2^z arc-seconds long on each side, it is looked up in this tile. The north pole lies in the last row.
 pub record IsTileOfPlace (tile : TileId) (east north : ℕ) : Type 0 where
   pub column : tile.x ≡ (east * 2 ^ tile.z) / 648000
   pub row : tile.y ≡ min ((north * 2 ^ tile.z) / 648000) (2 ^ tile.z - 1)
@@ -20,8 +21,8 @@ pub record IsGoodPlace (tile : TileId) (east north : ℕ) : Type 0 where
   pub north_in_range : north ≤ 648000
   pub tile_is : IsTileOfPlace tile east north
 
--- how far so many arc-seconds are beyond the border of a column or row, 648000 times, in codes of u or v, of which a tile's
--- side has 32767
+-- how far so many arc-seconds are beyond the border of a column or row, 648000 times, in codes of u or v, of which a
+-- tile's side has 32767
 abbrev pub units_beyond : ℕ → ℕ → ℕ → ℤ
 units_beyond z stripe seconds = (pos (seconds * 2 ^ z) -ℤ pos (648000 * stripe)) *ℤ pos 32767
 

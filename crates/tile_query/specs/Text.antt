@@ -19,7 +19,8 @@ ratio_text_of r = joined (signed_decimal r.over ∷ codes "/" ∷ signed_decimal
 
 -- `height A/B tile Z/X/Y`
 abbrev pub height_text_of : TileId → Ratio → List ℕ
-height_text_of tile height = joined (codes "height " ∷ ratio_text_of height ∷ codes " tile " ∷ tile_text tile ∷ codes "\n" ∷ [])
+height_text_of tile height = joined
+    (codes "height " ∷ ratio_text_of height ∷ codes " tile " ∷ tile_text tile ∷ codes "\n" ∷ [])
 
 -- `A/B height C/D`: the fraction of the way, and the surface there in metres
 abbrev pub break_line_of : Break → List ℕ
@@ -27,7 +28,8 @@ break_line_of bend = joined (ratio_text_of bend.at ∷ codes " height " ∷ rati
 
 -- `profile Z/X/Y points N`, then a line for each of the N breaks
 abbrev pub profile_head : TileId → ℕ → List ℕ
-profile_head tile points = joined (codes "profile " ∷ tile_text tile ∷ codes " points " ∷ decimal points ∷ codes "\n" ∷ [])
+profile_head tile points = joined
+    (codes "profile " ∷ tile_text tile ∷ codes " points " ∷ decimal points ∷ codes "\n" ∷ [])
 
 abbrev pub profile_text_of : TileId → List Break → List ℕ
 profile_text_of tile breaks = profile_head tile (length breaks) ++ flat_map break_line_of breaks
@@ -36,13 +38,15 @@ profile_text_of tile breaks = profile_head tile (length breaks) ++ flat_map brea
 abbrev pub sight_text_of : SightAnswer → List ℕ
 sight_text_of Clear = codes "clear\n"
 sight_text_of (Blocked at triangle height line) = joined
-    (codes "blocked at " ∷ ratio_text_of at ∷ codes " triangle " ∷ decimal triangle ∷ codes " ground " ∷ ratio_text_of height
+    (codes "blocked at " ∷ ratio_text_of at ∷ codes " triangle " ∷ decimal triangle ∷ codes " ground "
+    ∷ ratio_text_of height
     ∷ codes " line " ∷ ratio_text_of line ∷ codes "\n" ∷ [])
 
 -- `view Z/X/Y vertices V seen S`, then the number of each of the S seen vertices of V
 abbrev pub view_head : TileId → ℕ → ℕ → List ℕ
 view_head tile vertices seen = joined
-    (codes "view " ∷ tile_text tile ∷ codes " vertices " ∷ decimal vertices ∷ codes " seen " ∷ decimal seen ∷ codes "\n" ∷ [])
+    (codes "view " ∷ tile_text tile ∷ codes " vertices " ∷ decimal vertices ∷ codes " seen " ∷ decimal seen
+    ∷ codes "\n" ∷ [])
 
 abbrev pub view_text_of : TileId → ℕ → List ℕ → List ℕ
 view_text_of tile vertices seen = view_head tile vertices (length seen) ++ flat_map (λ k. decimal k ++ codes "\n") seen

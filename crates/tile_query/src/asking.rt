@@ -53,9 +53,9 @@ fn read_answer(
 /// What a question is answered over any bytes that are stored under the name of the tile.
 ///
 /// The bytes are refused where they are no tile of quantized-mesh-1.0 (`M1` to `M6`); else where a vertex has no whole
-/// number of metres within 65535 (`Q1`); else where an audit of the mesh finds something (`Q2`). Otherwise they are answered.
-/// Takes time linear in the mesh for a height, a profile or sight, and in the number of vertices times that of triangles for
-/// a view.
+/// number of metres within 65535 (`Q1`); else where an audit of the mesh finds something (`Q2`). Otherwise they are
+/// answered. Takes time linear in the mesh for a height, a profile or sight, and in the number of vertices times that
+/// of triangles for a view.
 pub fn answer(
     alloc: Global,
     tile: TileId,

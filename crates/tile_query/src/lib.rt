@@ -1,4 +1,5 @@
-//! What questions about the surface of a stored tile are answered, as texts: heights, profiles, and sight over the tile.
+//! What questions about the surface of a stored tile are answered, as texts: heights, profiles, and sight over the
+//! tile.
 #![tactic(auto)]
 
 mod asking;

@@ -8,8 +8,8 @@ use terrain_base::TileId;
 /// Arc-seconds in half a turn.
 const HALF_TURN: u32 = 648_000;
 
-/// The tile of a level, 0 to 14, in which a place is looked up: whole arc-seconds east of 180 degrees west, 0 to 1295999,
-/// and north of the south pole, 0 to 648000. The north pole lies in the last row.
+/// The tile of a level, 0 to 14, in which a place is looked up: whole arc-seconds east of 180 degrees west, 0 to
+/// 1295999, and north of the south pole, 0 to 648000. The north pole lies in the last row.
 pub fn tile_at(level: u8, east: u32, north: u32) -> TileId
     requires level { level ≤ 14 }
     requires east { east ≤ 1295999 }

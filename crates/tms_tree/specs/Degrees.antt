@@ -57,12 +57,14 @@ pub record IsInside (n parts : ℕ) (span : Span) : Type 0 where
 pub record Holds (rectangle : Rectangle) (point : Point) : Type 0 where
   pub turns : ℕ
   pub point_turns : ℕ
-  pub longitude : IsWithin (point.east + 360 * point_turns * point.parts) point.parts (turned turns rectangle.longitudes)
+  pub longitude : IsWithin (point.east + 360 * point_turns * point.parts) point.parts
+      (turned turns rectangle.longitudes)
   pub latitude : IsWithin point.north point.parts rectangle.latitudes
 
 -- the open rectangle has the point, whole turns of longitude left aside
 pub record HoldsInside (rectangle : Rectangle) (point : Point) : Type 0 where
   pub turns : ℕ
   pub point_turns : ℕ
-  pub longitude : IsInside (point.east + 360 * point_turns * point.parts) point.parts (turned turns rectangle.longitudes)
+  pub longitude : IsInside (point.east + 360 * point_turns * point.parts) point.parts
+      (turned turns rectangle.longitudes)
   pub latitude : IsInside point.north point.parts rectangle.latitudes

@@ -26,7 +26,8 @@ meets_at z stripe degree = nat_le (180 * stripe) ((degree + 1) * 2 ^ z) && nat_l
 
 -- the open ones do
 abbrev pub crosses_at : ℕ → ℕ → ℕ → Bool
-crosses_at z stripe degree = nat_lt (180 * stripe) ((degree + 1) * 2 ^ z) && nat_lt (degree * 2 ^ z) (180 * (stripe + 1))
+crosses_at z stripe degree = nat_lt (180 * stripe) ((degree + 1) * 2 ^ z)
+    && nat_lt (degree * 2 ^ z) (180 * (stripe + 1))
 
 -- both lie on the meridian 180, from its two sides
 abbrev pub wraps_at : ℕ → ℕ → ℕ → Bool

@@ -13,7 +13,8 @@ is_in_east (Some run) n = is_in_run run n
 
 -- the tile's row is in the rows, and its column in one of the two runs
 abbrev pub is_in_rows : TouchedRows → TileId → Bool
-is_in_rows touched tile = is_in_run touched.rows tile.y && (is_in_run touched.west tile.x || is_in_east touched.east tile.x)
+is_in_rows touched tile = is_in_run touched.rows tile.y
+    && (is_in_run touched.west tile.x || is_in_east touched.east tile.x)
 
 -- a run that is not empty, of numbers below n
 pub record IsRun (n : ℕ) (run : Run) : Type 0 where

@@ -11,13 +11,16 @@ ghost use Rattle.tms_tree.specs.Neighbour.{IsEastOf, IsNorthOf};
 /// The grid points on a shared edge are the same: those of a tile's east edge and of its eastern
 /// neighbour's west edge, those of its north edge and of its northern neighbour's south edge.
 pub fn shared_edges()
-    ensures east { (tile east : tile.TileId) (j : ℕ) → IsEastOf tile east → SamePlace (place_of tile 66 j) (place_of east 0 j) }
-    ensures north { (tile north : tile.TileId) (i : ℕ) → IsNorthOf tile north → place_of tile i 66 ≡ place_of north i 0 }
+    ensures east { (tile east : tile.TileId) (j : ℕ) → IsEastOf tile east
+        → SamePlace (place_of tile 66 j) (place_of east 0 j) }
+    ensures north { (tile north : tile.TileId) (i : ℕ) → IsNorthOf tile north
+        → place_of tile i 66 ≡ place_of north i 0 }
 {}
 
 /// Each grid point of a tile lies in its closed rectangle.
 pub fn grid_within_tile()
-    ensures { (tile : tile.TileId) (i j : ℕ) → i ≤ 66 → j ≤ 66 → Holds (tile_rectangle tile) (point_of (place_of tile i j)) }
+    ensures { (tile : tile.TileId) (i j : ℕ) → i ≤ 66 → j ≤ 66
+        → Holds (tile_rectangle tile) (point_of (place_of tile i j)) }
 {}
 
 /// A tile touches a square exactly where their closed rectangles share a point, and overlaps it exactly where their

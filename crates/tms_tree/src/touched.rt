@@ -38,7 +38,8 @@ fn run_of(z: u8, stripes: u32, degree: u32) -> Run
 fn columns_of(z: u8, lon: u16) -> (Run, Option<Run>)
     requires level { z ≤ 14 }
     requires degree { lon < 360 }
-    ensures exact { (column : ℕ) → column < 2 ^ (z + 1) → round_meets_at z column lon ≡ (is_in_run result.0 column || is_in_east result.1 column) }
+    ensures exact { (column : ℕ) → column < 2 ^ (z + 1)
+        → round_meets_at z column lon ≡ (is_in_run result.0 column || is_in_east result.1 column) }
     ensures west { IsRun (2 ^ (z + 1)) result.0 }
     ensures east { IfSome result.1 (IsBehind (2 ^ (z + 1)) result.0) }
 {

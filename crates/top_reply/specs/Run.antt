@@ -42,8 +42,8 @@ pub record Arrives (command : DatabaseCommand) (library : LibraryFiles) (s : Sta
   pub holds : HoldsFilesOf held state
 
 -- After any accepted list of adding, replacing and removing cells, begun on files that stand for a state, the files are
--- those of a build from scratch, and every tile is good. The same of a rebuilding, of questions, of a beginning, and of a
--- migration of files that read as the state by an older version.
+-- those of a build from scratch, and every tile is good. The same of a rebuilding, of questions, of a beginning, and of
+-- a migration of files that read as the state by an older version.
 abbrev pub Headline : Option Command → Option Files → Option LibraryFiles → Option Files → Status → Type 0
 Headline None held library held' status = Unit {0}
 Headline (Some (Init params)) held library held' status = (files : Files)

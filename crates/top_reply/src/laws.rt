@@ -31,8 +31,8 @@ pub fn files_are_good()
 }
 
 /// Where a script was stopped: of the states that it passes the files are that after as many command lines as the sink
-/// took whole lines beginning with `line `, or that after one more; and the first of these, where a file outside was not
-/// read. So it is of files that stood for a state, and of files that only read as one.
+/// took whole lines beginning with `line `, or that after one more; and the first of these, where a file outside was
+/// not read. So it is of files that stood for a state, and of files that only read as one.
 pub fn lines_are_told()
     ensures standing { LinesAreTold StandsFor }
     ensures reading { LinesAreTold ReadsFor }

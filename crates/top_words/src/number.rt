@@ -129,7 +129,8 @@ pub(crate) fn read_tile(z: &str, x: &str, y: &str) -> Option<TileId>
 // The count and the number of a trial.
 pub(crate) fn read_trial(count: &str, number: &str) -> Option<(u8, u64)>
     ensures right { IfSome result (λ trial. IsTrialText count.now number.now trial.0 trial.1) }
-    ensures all { (counted numbered : ℕ) → IsTrialText count.now number.now counted numbered → result ≡ Some (counted, numbered) }
+    ensures all { (counted numbered : ℕ) → IsTrialText count.now number.now counted numbered
+        → result ≡ Some (counted, numbered) }
 {
     let count = read_number(count)?;
     let number = read_number(number)?;

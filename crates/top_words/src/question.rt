@@ -22,8 +22,10 @@ pub(crate) struct LevelPlace {
 
 // The place of a level's, an east's and a north's text.
 pub(crate) fn read_place(level: &str, east: &str, north: &str) -> Option<LevelPlace>
-    ensures right { IfSome result (λ place. IsPlaceText level.now east.now north.now place.level place.east place.north) }
-    ensures all { (wanted : places.LevelPlace) → IsPlaceText level.now east.now north.now wanted.level wanted.east wanted.north
+    ensures right { IfSome result (λ place.
+        IsPlaceText level.now east.now north.now place.level place.east place.north) }
+    ensures all { (wanted : places.LevelPlace)
+        → IsPlaceText level.now east.now north.now wanted.level wanted.east wanted.north
         → result ≡ Some wanted }
 {
     let level = read_number(level)?;

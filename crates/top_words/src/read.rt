@@ -18,7 +18,8 @@ use tile_query::{Question, tile_at};
 // The command of this word alone.
 fn no_argument(word: &str) -> Option<Command<'_>>
     ensures right { IfSome result (λ command. IsSpelled (word.now ∷ []) (meant command)) }
-    ensures all { (command : spelled.Command) → IsSpelled (word.now ∷ []) command → option_map meant result ≡ Some command }
+    ensures all { (command : spelled.Command) → IsSpelled (word.now ∷ []) command
+        → option_map meant result ≡ Some command }
 {
     if word == "list" {
         return Some(Command::Database(DatabaseCommand::Ask(Query::List)));
@@ -38,7 +39,8 @@ fn no_argument(word: &str) -> Option<Command<'_>>
 // The command of this word and the name of a file, which is not empty.
 fn with_file<'a>(word: &str, file: &'a str) -> Option<Command<'a>>
     ensures right { IfSome result (λ command. IsSpelled (word.now ∷ file.now ∷ []) (meant command)) }
-    ensures all { (command : spelled.Command) → IsSpelled (word.now ∷ file.now ∷ []) command → option_map meant result ≡ Some command }
+    ensures all { (command : spelled.Command) → IsSpelled (word.now ∷ file.now ∷ []) command
+        → option_map meant result ≡ Some command }
 {
     if file.is_empty() {
         return None;
@@ -67,7 +69,8 @@ fn with_file<'a>(word: &str, file: &'a str) -> Option<Command<'a>>
 // The command of this word and two arguments.
 fn with_two<'a>(word: &str, first: &str, second: &str) -> Option<Command<'a>>
     ensures right { IfSome result (λ command. IsSpelled (word.now ∷ first.now ∷ second.now ∷ []) (meant command)) }
-    ensures all { (command : spelled.Command) → IsSpelled (word.now ∷ first.now ∷ second.now ∷ []) command → option_map meant result ≡ Some command }
+    ensures all { (command : spelled.Command) → IsSpelled (word.now ∷ first.now ∷ second.now ∷ []) command
+        → option_map meant result ≡ Some command }
 {
     if word == "init" {
         let params = read_params(first, second)?;
@@ -104,7 +107,8 @@ fn height_query(level: &str, east: &str, north: &str) -> Option<Query>
 // The command of this word and a tile.
 fn with_tile<'a>(word: &str, z: &str, x: &str, y: &str) -> Option<Command<'a>>
     ensures right { IfSome result (λ command. IsSpelled (word.now ∷ z.now ∷ x.now ∷ y.now ∷ []) (meant command)) }
-    ensures all { (command : spelled.Command) → IsSpelled (word.now ∷ z.now ∷ x.now ∷ y.now ∷ []) command → option_map meant result ≡ Some command }
+    ensures all { (command : spelled.Command) → IsSpelled (word.now ∷ z.now ∷ x.now ∷ y.now ∷ []) command
+        → option_map meant result ≡ Some command }
 {
     if word == "inspect" {
         let tile = read_tile(z, x, y)?;
@@ -166,7 +170,8 @@ fn with_eyes(word: &str, from: Option<Eye>, to: Option<Eye>) -> Option<Question>
 // The command that asks this of a stored tile.
 fn of_surface<'a>(tile: Option<TileId>, question: Option<Question>) -> Option<Command<'a>>
     ensures right { IfSome result (λ command. IsSurfaceOf tile question (meant command)) }
-    ensures all { (wanted : spelled.Command) → IsSurfaceOf tile question wanted → option_map meant result ≡ Some wanted }
+    ensures all { (wanted : spelled.Command) → IsSurfaceOf tile question wanted
+        → option_map meant result ≡ Some wanted }
 {
     let tile = tile?;
     let question = question?;
@@ -241,7 +246,8 @@ fn surface_command(words: &[String]) -> Option<Command<'_>>
 // The command of the words behind the folder.
 fn command_of(words: &[String]) -> Option<Command<'_>>
     ensures right { IfSome result (λ command. IsSpelled (map string_bytes words.now) (meant command)) }
-    ensures all { (command : spelled.Command) → IsSpelled (map string_bytes words.now) command → option_map meant result ≡ Some command }
+    ensures all { (command : spelled.Command) → IsSpelled (map string_bytes words.now) command
+        → option_map meant result ≡ Some command }
 {
     if words.len() > 4 {
         return surface_command(words);
@@ -259,7 +265,8 @@ fn command_of(words: &[String]) -> Option<Command<'_>>
 /// exactly where they spell none.
 pub fn command_in(words: &[String]) -> Option<Command<'_>>
     ensures right { IfSome result (λ command. Spells (map string_bytes words.now) (meant command)) }
-    ensures all { (command : spelled.Command) → Spells (map string_bytes words.now) command → option_map meant result ≡ Some command }
+    ensures all { (command : spelled.Command) → Spells (map string_bytes words.now) command
+        → option_map meant result ≡ Some command }
 {
     match words {
         [_, behind @ ..] => command_of(behind),

@@ -25,7 +25,8 @@ pub enum Line<'a> {
 
 // The name of a file behind a word and a blank.
 fn file_behind<'a>(line: &'a [u8], word: &[u8]) -> Option<&'a str>
-    ensures right { IfSome result (λ file. (line.now ≡ word.now ++ file.now) × (0 < length file.now) × IsUtf8 file.now) }
+    ensures right { IfSome result (λ file. (line.now ≡ word.now ++ file.now) × (0 < length file.now)
+        × IsUtf8 file.now) }
     ensures none { IfNone result ((file : List ℕ) → 0 < length file → IsUtf8 file → line.now ≢ word.now ++ file) }
 {
     let file = line.strip_prefix(word)?;
