@@ -10,7 +10,7 @@ use Rattle.cell_mosaic.specs.Blend.{weighted, heaviest, rounded}
 abbrev pub FirstIsHeaviest : Type 0
 FirstIsHeaviest = (before after : List Weighted) (one : Weighted)
     → AllByRecursion (λ other. other.weight < one.weight) before
-      → AllByRecursion (λ other. other.weight ≤ one.weight) after
+    → AllByRecursion (λ other. other.weight ≤ one.weight) after
     → heaviest (before ++ one ∷ after) ≡ one.post
 
 -- the four weights make up the product of the units
@@ -21,4 +21,4 @@ WeightsMakeTheUnit = (quad : Quad) (east east_unit north north_unit : ℕ) → e
 -- it is sum/unit + 1/2, rounded down
 abbrev pub RoundsHalfUp : Type 0
 RoundsHalfUp = (sum : ℤ) (unit : ℕ) → 0 < unit
-  → IsFloor ((sum *ℤ pos 2) +ℤ pos unit) (pos (2 * unit)) (rounded sum unit)
+    → IsFloor ((sum *ℤ pos 2) +ℤ pos unit) (pos (2 * unit)) (rounded sum unit)

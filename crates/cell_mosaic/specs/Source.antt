@@ -85,7 +85,7 @@ pub record Marks {T : Type 0} (before now : Bool) (result : Result T SourceFault
 -- answers Ok; trouble with a cell is shown, 'Failed' has a cause; nothing that can be seen is changed; and trouble is
 -- not passed over. The first seven are the meanings of the source and of the store.
 pub record Leaves {P S T : Type 0} (cells : P → Option Files → Option Cells) (shapes : P → Shapes)
-  (is_sure is_spoilt : P → Bool)
+    (is_sure is_spoilt : P → Bool)
     (holds : S → Option Files) (log : S → Option (List Change)) (faults : S → ℕ)
     (source source' : P) (store store' : S) (result : Result T SourceFault) : Type 0 where
   pub sure : IsTrue (is_sure source) → IsOk result

@@ -91,5 +91,5 @@ pub record ArePosts (quad : Quad) : Type 0 where
 -- a value in a square is void or a height
 abbrev pub ValuesArePosts : Type 0
 ValuesArePosts = (cells : Cells) (square : Square) (place : Place) → AreSound cells → IsPlace place
-  → Holds (square_rectangle square) (point_of place)
+    → Holds (square_rectangle square) (point_of place)
     → IsPost (value_at cells square place)

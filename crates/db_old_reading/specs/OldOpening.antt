@@ -31,7 +31,7 @@ pub record IsTroubleAt (files : Files) (staged : Option OldRow) (row : OldRow) (
 
 -- the trouble is with the first of the rows whose cell is not held
 pub record IsFirstRow (files : Files) (staged : Option OldRow) (rows : List OldRow)
-  (trouble : CellTrouble) : Type 0 where
+    (trouble : CellTrouble) : Type 0 where
   pub front : List OldRow
   pub row : OldRow
   pub back : List OldRow

@@ -7,7 +7,7 @@ use Rattle.report_text.specs.Words.{joined}
 abbrev pub finding_text_of : Finding → List ℕ
 finding_text_of (TooLarge vertices) = joined (codes "too-large " ∷ decimal vertices ∷ [])
 finding_text_of (NotCounterClockwise triangle) =
-  joined (codes "not-counter-clockwise triangle " ∷ decimal triangle ∷ [])
+    joined (codes "not-counter-clockwise triangle " ∷ decimal triangle ∷ [])
 finding_text_of (SlabGap low high place) =
     joined (codes "slab-gap " ∷ decimal low ∷ codes " " ∷ decimal high ∷ codes " place " ∷ decimal place ∷ [])
 finding_text_of (HeightGap low high place) =

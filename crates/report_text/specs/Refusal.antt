@@ -7,7 +7,7 @@ use Rattle.report_text.specs.Words.{joined}
 
 abbrev pub cell_refusal_of : CellRefusal → List ℕ
 cell_refusal_of (TooShort need have) =
-  joined (codes "C1 too short need " ∷ decimal need ∷ codes " have " ∷ decimal have ∷ [])
+    joined (codes "C1 too short need " ∷ decimal need ∷ codes " have " ∷ decimal have ∷ [])
 cell_refusal_of NoUhl = codes "C2 no UHL"
 cell_refusal_of (BadField offset) = joined (codes "C3 bad field at " ∷ decimal offset ∷ [])
 cell_refusal_of OffDegree = codes "C4 off degree"
@@ -21,7 +21,7 @@ cell_refusal_of (BadSentinel col) = joined (codes "C11 bad sentinel column " ∷
 cell_refusal_of (BadColumn col) = joined (codes "C12 bad column " ∷ decimal col ∷ [])
 cell_refusal_of (BadChecksum col stated summed) =
     joined (codes "C13 bad checksum column " ∷ decimal col ∷ codes " stated " ∷ decimal stated ∷ codes " summed "
-      ∷ decimal summed ∷ [])
+    ∷ decimal summed ∷ [])
 cell_refusal_of (HeightOutOfRange col row value) =
     joined (codes "C14 height column " ∷ decimal col ∷ codes " row " ∷ decimal row ∷ codes " value "
-      ∷ signed_decimal value ∷ [])
+    ∷ signed_decimal value ∷ [])

@@ -21,11 +21,11 @@ edge_name North = codes "north"
 
 abbrev pub tile_refusal_text_of : TileRefusal → List ℕ
 tile_refusal_text_of (Truncated at need) =
-  joined (codes "M1 truncated at " ∷ decimal at ∷ codes " need " ∷ decimal need ∷ [])
+    joined (codes "M1 truncated at " ∷ decimal at ∷ codes " need " ∷ decimal need ∷ [])
 tile_refusal_text_of (CoordinateOutOfRange array k) =
-  joined (codes "M2 coordinate " ∷ array_name array ∷ codes " place " ∷ decimal k ∷ [])
+    joined (codes "M2 coordinate " ∷ array_name array ∷ codes " place " ∷ decimal k ∷ [])
 tile_refusal_text_of (IndexOutOfRange k) = joined (codes "M3 index place " ∷ decimal k ∷ [])
 tile_refusal_text_of (EdgeIndexTooLarge edge k) =
-  joined (codes "M4 edge " ∷ edge_name edge ∷ codes " place " ∷ decimal k ∷ [])
+    joined (codes "M4 edge " ∷ edge_name edge ∷ codes " place " ∷ decimal k ∷ [])
 tile_refusal_text_of (ExtensionTruncated at) = joined (codes "M5 extension at " ∷ decimal at ∷ [])
 tile_refusal_text_of Compressed = codes "M6 compressed"

@@ -30,7 +30,7 @@ DoNotDescend cells = AllPairs (λ a b. square_cmp b.square a.square ≢ Less) ce
 -- they are those of the levels to the cap that share a point with it
 abbrev pub TouchedLaw : Type 0
 TouchedLaw = (cap : ℕ) (square : Square) (tile : TileId) → Contains (touched cap square) tile
-  ↔ ((tile.z ≤ cap) × Touches tile square)
+    ↔ ((tile.z ≤ cap) × Touches tile square)
 
 abbrev pub TouchedAscendLaw : Type 0
 TouchedAscendLaw = (cap : ℕ) (square : Square) → TilesAscend (touched cap square)
@@ -39,7 +39,7 @@ TouchedAscendLaw = (cap : ℕ) (square : Square) → TilesAscend (touched cap sq
 
 abbrev pub ExistingLaw : Type 0
 ExistingLaw = (cap : ℕ) (cells : List Summary) (tile : TileId) → Contains (existing cap cells) tile
-  ↔ Exists cap cells tile
+    ↔ Exists cap cells tile
 
 abbrev pub ExistingAscendLaw : Type 0
 ExistingAscendLaw = (cap : ℕ) (cells : List Summary) → TilesAscend (existing cap cells)
@@ -53,7 +53,7 @@ ExistingCountLaw = (cap : ℕ) (cells : List Summary) → length (existing cap c
 -- a square is among those of the cells exactly where it is the square of one
 abbrev pub SquaresLaw : Type 0
 SquaresLaw = (cells : List Summary) (square : Square) → Contains (squares_of cells) square
-  ↔ ((cell : Summary) × Contains cells cell × (cell.square ≡ square))
+    ↔ ((cell : Summary) × Contains cells cell × (cell.square ≡ square))
 
 -- where the cells do not descend, the squares ascend
 abbrev pub SquaresAscendLaw : Type 0
@@ -62,9 +62,9 @@ SquaresAscendLaw = (cells : List Summary) → DoNotDescend cells → SquaresAsce
 -- of the squares that touch a tile, each is one of the squares and shares a point with the tile
 abbrev pub TouchingLaw : Type 0
 TouchingLaw = (tile : TileId) (squares : List Square) (square : Square) → Contains (touching tile squares) square
-  ↔ (Contains squares square × Touches tile square)
+    ↔ (Contains squares square × Touches tile square)
 
 -- and they stand in the order of the squares
 abbrev pub TouchingAscendLaw : Type 0
 TouchingAscendLaw = (tile : TileId) (squares : List Square) → SquaresAscend squares
-  → SquaresAscend (touching tile squares)
+    → SquaresAscend (touching tile squares)

@@ -17,7 +17,7 @@ where_true false f = None
 unfoldable pub tile_at : ℕ → ℕ → ℕ → Option TileId
 tile_at z row column =
     where_true (nat_le z 14) (λ level.
-      where_true (nat_lt row (2 ^ z)) (λ south. where_true (nat_lt column (2 ^ (z + 1))) (λ west.
+    where_true (nat_lt row (2 ^ z)) (λ south. where_true (nat_lt column (2 ^ (z + 1))) (λ west.
     Some (record {
       z = z;
       y = row;

@@ -17,7 +17,7 @@ IsOkOrNoMemory (Err (Cell trouble)) = ⊥
 -- As `Leaves`, but a sure source answers Ok or NoMemory, since memory alone may be wanting: trouble with a cell is
 -- shown, 'Failed' has a cause, nothing that can be seen is changed, and trouble is not passed over.
 pub record LeavesAllocating {P S T : Type 0} (cells : P → Option Files → Option Cells) (shapes : P → Shapes)
-  (is_sure is_spoilt : P → Bool)
+    (is_sure is_spoilt : P → Bool)
     (holds : S → Option Files) (log : S → Option (List Change)) (faults : S → ℕ)
     (source source' : P) (store store' : S) (result : Result T SourceFault) : Type 0 where
   pub sure : IsTrue (is_sure source) → IsOkOrNoMemory result
