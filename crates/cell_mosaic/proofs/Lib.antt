@@ -3,6 +3,7 @@ pub mod Heaviest
 pub mod Heights
 pub mod Keeping
 pub mod Holders
+pub mod Shorts
 pub mod Sums
 pub mod Values
 pub mod WholeMaps

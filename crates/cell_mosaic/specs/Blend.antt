@@ -69,3 +69,7 @@ value_of posts unit =
 unfoldable pub blend_of : Quad → ℕ → ℕ → ℕ → ℕ → Post
 blend_of quad east east_unit north north_unit =
     value_of (weighted quad east east_unit north north_unit) (east_unit * north_unit)
+
+-- four heights as posts
+abbrev pub heights_round : ℤ → ℤ → ℤ → ℤ → Quad
+heights_round sw se nw ne = record { sw = Metres sw; se = Metres se; nw = Metres nw; ne = Metres ne }

@@ -17,6 +17,7 @@ ghost use Rattle.cell_mosaic.specs.Blend.{
 };
 
 use crate::Quad;
+use crate::short_blend::short_blend;
 use crate::weighted::Weighted;
 use terrain_base::{Post, floor_div};
 
@@ -156,6 +157,10 @@ pub fn blend(quad: &Quad, east: u128, east_unit: u128, north: u128, north_unit: 
     ensures value { result ≡ blend_of quad.now east east_unit north north_unit }
     ensures height { IsPost result }
 {
+    // Few grid points of a tile have a void beside them, and 64 bits take much less time than 128.
+    if let Some(metres) = short_blend(quad, east, east_unit, north, north_unit) {
+        return Post::Metres(metres);
+    }
     let posts = weigh(quad, east, east_unit, north, north_unit);
     if has_void(&posts) {
         return nearest(&posts);

@@ -7,6 +7,7 @@ mod candidate;
 mod fault;
 pub mod laws;
 mod quad;
+mod short_blend;
 mod source;
 mod squares;
 #[cfg(test)]
