@@ -8,4 +8,5 @@ pub mod Sums
 pub mod Values
 pub mod WholeMaps
 pub mod Ranges
+pub mod Rounds
 pub mod ValueLaws

@@ -1,6 +1,6 @@
 -- The cells that are kept in memory, by the entries of their map.
-use Rattle.std.proofs.Common.{◌≡◌, ℕ, ◌<◌, Bool, true, false, ◌||◌, List, [], ◌∷◌, Option, Some, None, cond, refl, sym, ap, ◌∙◌, subst}
-use Rattle.std.specs.Prelude.{is_some, Result, OnOk, OnErr, Ok, Err}
+use Rattle.std.proofs.Common.{◌≡◌, ℕ, ◌+◌, ◌<◌, Bool, true, false, ◌||◌, List, [], ◌∷◌, Option, Some, None, cond, refl, sym, ap, ◌∙◌, subst}
+use Rattle.std.specs.Prelude.{is_some, IsFalse, Result, OnOk, OnErr, Ok, Err}
 use Rattle.std.specs.FinMap.{insert, get, get-empty, get-insert, same_map}
 use Rattle.std.specs.FinSet as set
 use Rattle.std.specs.Ordering.{eq_by_cmp}
@@ -15,6 +15,7 @@ use Rattle.terrain_base.proofs.KeyOrder.{keys_exact, same_key}
 use Rattle.dted_cell.specs.Cell.{columns_in, rows_in, post_in}
 use Rattle.dted_cell.specs.Trouble.{IsCellAt}
 use Rattle.cell_mosaic.specs.Cells.{Cells, HasPost, post_at, post_or_void}
+use Rattle.cell_mosaic.specs.Value.{quad_round, HasRound}
 use Rattle.cell_mosaic.specs.Whole.{cells_of, shapes_of, key_in, AreOfKeys}
 use Rattle.cell_mosaic.specs.WholeAgrees.{keys_of}
 
@@ -109,3 +110,23 @@ pub told_post : (es : List (CellKey × List ℕ)) (key : CellKey) (col row : ℕ
 told_post es key col row bytes told found is =
     let same : cells_of es ≡ told = cc in
     ap (λ o. post_or_void o col row) (sym found.cell_is) ∙ ap (λ cells. post_at cells key col row) same
+
+-- ---- the posts round a point
+
+pub round_found : (es : List (CellKey × List ℕ)) (key : CellKey) (col row : ℕ) (on_column on_row : Bool) (bytes : List ℕ) → AreOfKeys es
+    → HasPost (shapes_of es) key col row → (IsFalse on_column → HasPost (shapes_of es) key (col + 1) row) → (IsFalse on_row → HasPost (shapes_of es) key col (row + 1))
+    → Some bytes ≡ lookup (is_at (key_cmp key)) es → HasRound bytes col row on_column on_row
+round_found es key col row on_column on_row bytes good sw se nw is =
+    let here = is_found es key col row bytes good sw is in
+    record {
+      in_col = here.col_below;
+      in_row = here.row_below;
+      next_col = λ off. (is_found es key (col + 1) row bytes good (se off) is).col_below;
+      next_row = λ off. (is_found es key col (row + 1) bytes good (nw off) is).row_below;
+    }
+
+pub told_round : (es : List (CellKey × List ℕ)) (key : CellKey) (col row : ℕ) (on_column on_row : Bool) (bytes : List ℕ) (told : Cells) → IsFound es key col row bytes
+    → ◌≡◌ {A = Option Cells} (Some (cells_of es)) (Some told) → quad_round (post_in bytes) col row on_column on_row ≡ quad_round (post_at told key) col row on_column on_row
+told_round es key col row on_column on_row bytes told found is =
+    let same : cells_of es ≡ told = cc in
+    ap (λ o. quad_round (post_or_void o) col row on_column on_row) (sym found.cell_is ∙ ap (λ (cells : Cells). get cells key) same)

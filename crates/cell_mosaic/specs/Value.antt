@@ -1,5 +1,24 @@
 -- The value at a place in a cell, and in the cells of a square.
-use Rattle.std.specs.Prelude.{ℕ, ◌+◌, ◌-◌, ◌*◌, ◌/◌, ◌%◌, ◌==◌, ◌||◌, Bool, not, List, map, Option, Some, None, if◌then◌else◌}
+use Rattle.std.specs.Prelude.{
+  ℕ,
+  ◌+◌,
+  ◌-◌,
+  ◌*◌,
+  ◌/◌,
+  ◌%◌,
+  ◌<◌,
+  ◌==◌,
+  ◌||◌,
+  Bool,
+  not,
+  IsFalse,
+  List,
+  map,
+  Option,
+  Some,
+  None,
+  if◌then◌else◌,
+}
 use Rattle.std.specs.List.{find}
 use Rattle.std.specs.FinMap.{get}
 use Rattle.terrain_base.specs.declared.square.Square.{Square}
@@ -12,7 +31,7 @@ use Rattle.terrain_base.specs.Level.{rows_of, columns_of}
 use Rattle.tms_tree.specs.declared.place.Place.{Place}
 use Rattle.tms_tree.specs.Degrees.{Holds, square_rectangle}
 use Rattle.tms_tree.specs.Place.{IsPlace, point_of}
-use Rattle.dted_cell.specs.Cell.{level_in, post_in, is_void_post}
+use Rattle.dted_cell.specs.Cell.{level_in, columns_in, rows_in, post_in, is_void_post}
 use Rattle.cell_mosaic.specs.Cells.{Cells, AreSound, IsPost}
 use Rattle.cell_mosaic.specs.Blend.{blend_of}
 use Rattle.cell_mosaic.specs.declared.quad.Quad.{Quad}
@@ -80,6 +99,14 @@ value_in_levels cells square place levels =
 -- the value at the place in the square: the first that is not void in its cells, the finest first
 unfoldable pub value_at : Cells → Square → Place → Post
 value_at cells square place = value_in_levels cells square place all_levels
+
+-- the cell has the posts round a point of a column and a row: those beyond are needed only where the point does not lie
+-- on the column, or on the row
+pub record HasRound (bytes : List ℕ) (col row : ℕ) (on_column on_row : Bool) : Type 0 where
+  pub in_col : col < columns_in bytes
+  pub in_row : row < rows_in bytes
+  pub next_col : IsFalse on_column → col + 1 < columns_in bytes
+  pub next_row : IsFalse on_row → row + 1 < rows_in bytes
 
 -- each of the four is void or a height
 pub record ArePosts (quad : Quad) : Type 0 where

@@ -1,10 +1,11 @@
 // A source of posts.
-ghost use Rattle.std.specs.Prelude.{◌≡◌, Bool, Option, Some, IfOk};
+ghost use Rattle.std.specs.Prelude.{◌≡◌, ◌+◌, ◌<◌, Bool, Option, Some, IfOk, IsFalse};
 ghost use Rattle.terrain_base.specs.Step.{Files};
 ghost use Rattle.cell_mosaic.specs.Cells.{Cells, Shapes, AreCells, HasPost, IsPost, post_at, finest_of, coarser_of};
 ghost use Rattle.cell_mosaic.specs.Source.{GivesTold, Leaves, AlikeCells};
+ghost use Rattle.cell_mosaic.specs.Value.{unless_ignored, quad_round, ArePosts};
 
-use crate::SourceFault;
+use crate::{Quad, SourceFault};
 use terrain_base::{CellKey, CellLevel, Post, Square, Store};
 
 /// What gives the posts of cells, by key, column and row, and may read them from a store that it is lent.
@@ -47,6 +48,81 @@ pub trait PostSource {
         ensures height { IfOk result IsPost }
         ensures leaves { Leaves cells shapes sure spoilt S.holds S.log S.faults
             self.old self.new store.old store.new result };
+
+    /// The post, or a void in its place where it is ignored. Answers and changes are those of `post`.
+    fn post_unless<S: Store>(
+        &mut self,
+        is_ignored: bool,
+        store: &mut S,
+        key: CellKey,
+        col: u16,
+        row: u16,
+    ) -> Result<Post, SourceFault>
+        requires held { IsFalse is_ignored → HasPost (shapes self.old) key col row }
+        ensures value { GivesTold (cells self.old (S.holds store.old))
+            (λ told. unless_ignored is_ignored (post_at told key col row)) result }
+        ensures height { IfOk result IsPost }
+        ensures leaves { Leaves cells shapes sure spoilt S.holds S.log S.faults
+            self.old self.new store.old store.new result }
+    {
+        if is_ignored {
+            return Ok(Post::Void);
+        }
+        self.post(store, key, col, row)
+    }
+
+    /// The posts round a point of the key's cell, each by a call of `post`, for sources that have no shorter way to
+    /// `posts_round` or not always.
+    fn posts_one_by_one<S: Store>(
+        &mut self,
+        store: &mut S,
+        key: CellKey,
+        col: u16,
+        row: u16,
+        on_column: bool,
+        on_row: bool,
+    ) -> Result<Quad, SourceFault>
+        requires sw { HasPost (shapes self.old) key col row }
+        requires se { IsFalse on_column → HasPost (shapes self.old) key (col + 1) row }
+        requires nw { IsFalse on_row → HasPost (shapes self.old) key col (row + 1) }
+        requires small { (col < 3601) × (row < 3601) }
+        ensures value { GivesTold (cells self.old (S.holds store.old))
+            (λ told. quad_round (post_at told key) col row on_column on_row) result }
+        ensures height { IfOk result ArePosts }
+        ensures leaves { Leaves cells shapes sure spoilt S.holds S.log S.faults
+            self.old self.new store.old store.new result }
+    {
+        let sw = self.post(store, key, col, row)?;
+        let se = self.post_unless(on_column, store, key, col + 1, row)?;
+        let nw = self.post_unless(on_row, store, key, col, row + 1)?;
+        let ne = self.post_unless(on_column || on_row, store, key, col + 1, row + 1)?;
+        Ok(Quad { sw, se, nw, ne })
+    }
+
+    /// The posts round a point of the key's cell. The south-western one is that of the column and the row; where the
+    /// point lies on the column or on the row, voids stand in place of those beyond, which have the weight 0. Answers
+    /// and changes are those of `post`.
+    fn posts_round<S: Store>(
+        &mut self,
+        store: &mut S,
+        key: CellKey,
+        col: u16,
+        row: u16,
+        on_column: bool,
+        on_row: bool,
+    ) -> Result<Quad, SourceFault>
+        requires sw { HasPost (shapes self.old) key col row }
+        requires se { IsFalse on_column → HasPost (shapes self.old) key (col + 1) row }
+        requires nw { IsFalse on_row → HasPost (shapes self.old) key col (row + 1) }
+        requires small { (col < 3601) × (row < 3601) }
+        ensures value { GivesTold (cells self.old (S.holds store.old))
+            (λ told. quad_round (post_at told key) col row on_column on_row) result }
+        ensures height { IfOk result ArePosts }
+        ensures leaves { Leaves cells shapes sure spoilt S.holds S.log S.faults
+            self.old self.new store.old store.new result }
+    {
+        self.posts_one_by_one(store, key, col, row, on_column, on_row)
+    }
 
     /// Told cells are cells of their keys, and these are those of the shapes.
     ghost agree: { (source : Self) (files : Option Files) (told : Cells) →

@@ -1,14 +1,14 @@
 // The value at a place in a cell, and in the cells of a square.
-ghost use Rattle.std.specs.Prelude.{◌≡◌, true, ◌+◌, ◌-◌, ◌*◌, ◌/◌, ◌%◌, ◌^◌, ◌<◌, ◌≤◌, ◌==◌, IsSome, IsFalse, IfOk};
+ghost use Rattle.std.specs.Prelude.{◌≡◌, true, ◌+◌, ◌-◌, ◌*◌, ◌/◌, ◌%◌, ◌^◌, ◌<◌, ◌≤◌, ◌==◌, IsSome, IfOk};
 ghost use Rattle.std.specs.FinSet as set;
 ghost use Rattle.terrain_base.specs.Level.{rows_of, columns_of};
 ghost use Rattle.tms_tree.specs.Degrees.{Holds, square_rectangle};
 ghost use Rattle.tms_tree.specs.Place.{IsPlace, point_of};
-ghost use Rattle.cell_mosaic.specs.Cells.{HasPost, IsPost, post_at, finest_of, coarser_levels};
+ghost use Rattle.cell_mosaic.specs.Cells.{IsPost, finest_of, coarser_levels};
 ghost use Rattle.cell_mosaic.specs.Source.{GivesTold, Leaves};
-ghost use Rattle.cell_mosaic.specs.Value.{east_of, north_of, unless_ignored, quad_round, ArePosts, value_in_key, value_in_levels, value_at};
+ghost use Rattle.cell_mosaic.specs.Value.{east_of, north_of, value_in_key, value_in_levels, value_at};
 
-use crate::{PostSource, Quad, SourceFault, blend};
+use crate::{PostSource, SourceFault, blend};
 use terrain_base::{CellKey, Post, Square, Store, columns, rows};
 use tms_tree::Place;
 
@@ -48,57 +48,6 @@ fn step(units: u64, posts: u16, d: u64) -> (u16, u64)
     ((steps / d) as u16, steps % d)
 }
 
-/// The post, or a void in its place where it is ignored.
-fn post_unless<P: PostSource, S: Store>(
-    is_ignored: bool,
-    src: &mut P,
-    store: &mut S,
-    key: CellKey,
-    col: u16,
-    row: u16,
-) -> Result<Post, SourceFault>
-    requires held { IsFalse is_ignored → HasPost (P.shapes src.old) key col row }
-    ensures value { GivesTold (P.cells src.old (S.holds store.old))
-        (λ told. unless_ignored is_ignored (post_at told key col row)) result }
-    ensures height { IfOk result IsPost }
-    ensures leaves { Leaves P.cells P.shapes P.sure P.spoilt S.holds S.log S.faults
-        src.old src.new store.old store.new result }
-{
-    if is_ignored {
-        return Ok(Post::Void);
-    }
-    src.post(store, key, col, row)
-}
-
-/// The posts round a point of the key's cell. The south-western one is that of the column and the row; where the
-/// point lies on the column or on the row, voids stand in place of those beyond, which have the weight 0. Answers and
-/// changes are those of `PostSource::post`.
-pub fn posts_round<P: PostSource, S: Store>(
-    src: &mut P,
-    store: &mut S,
-    key: CellKey,
-    col: u16,
-    row: u16,
-    on_column: bool,
-    on_row: bool,
-) -> Result<Quad, SourceFault>
-    requires sw { HasPost (P.shapes src.old) key col row }
-    requires se { IsFalse on_column → HasPost (P.shapes src.old) key (col + 1) row }
-    requires nw { IsFalse on_row → HasPost (P.shapes src.old) key col (row + 1) }
-    requires small { (col < 3601) × (row < 3601) }
-    ensures value { GivesTold (P.cells src.old (S.holds store.old))
-        (λ told. quad_round (post_at told key) col row on_column on_row) result }
-    ensures height { IfOk result ArePosts }
-    ensures leaves { Leaves P.cells P.shapes P.sure P.spoilt S.holds S.log S.faults
-        src.old src.new store.old store.new result }
-{
-    let sw = src.post(store, key, col, row)?;
-    let se = post_unless(on_column, src, store, key, col + 1, row)?;
-    let nw = post_unless(on_row, src, store, key, col, row + 1)?;
-    let ne = post_unless(on_column || on_row, src, store, key, col + 1, row + 1)?;
-    Ok(Quad { sw, se, nw, ne })
-}
-
 /// The value at the place in the key's cell, by the posts round it.
 fn value_in_cell<P: PostSource, S: Store>(
     src: &mut P,
@@ -121,7 +70,7 @@ fn value_in_cell<P: PostSource, S: Store>(
         place.d,
     );
     let (row, north) = step(north(key.square, place), rows(key.level), place.d);
-    let quad = posts_round(src, store, key, col, row, east == 0, north == 0)?;
+    let quad = src.posts_round(store, key, col, row, east == 0, north == 0)?;
     let unit = place.d as u128;
     Ok(blend(&quad, east as u128, unit, north as u128, unit))
 }

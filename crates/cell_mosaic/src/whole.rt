@@ -7,7 +7,7 @@ ghost use Rattle.terrain_base.specs.CellKey.{key_at};
 ghost use Rattle.terrain_base.specs.declared.level.CellLevel.TheVariants as CellLevel;
 ghost use Rattle.cell_mosaic.specs.Whole.{AreOfKeys};
 
-use crate::{PostSource, SourceFault};
+use crate::{PostSource, Quad, SourceFault, quad_of};
 use dted_cell::CellBytes;
 use std::alloc::Global;
 use std::collections::BTreeMap;
@@ -120,10 +120,11 @@ impl WholeCells {
 }
 
 impl PostSource for WholeCells {
-    ghost use Rattle.std.specs.Prelude.{true, false, refl, Some, IfOk, IsOk};
+    ghost use Rattle.std.specs.Prelude.{◌+◌, true, false, refl, Some, IfOk, IsOk, IsFalse};
     ghost use Rattle.cell_mosaic.specs.Cells.{HasPost, post_at};
     ghost use Rattle.cell_mosaic.specs.Source.{GivesTold};
     ghost use Rattle.cell_mosaic.specs.Whole.{cells_of, shapes_of};
+    ghost use Rattle.cell_mosaic.specs.Value.{quad_round, ArePosts};
     ghost use Rattle.cell_mosaic.specs.WholeAgrees.{whole_agrees};
 
     ghost cells = { λ source files. Some (cells_of source.cells.entries) };
@@ -174,5 +175,32 @@ impl PostSource for WholeCells {
             unreachable!()
         };
         Ok(post_of(cell, col, row))
+    }
+
+    fn posts_round<S: Store>(
+        &mut self,
+        _store: &mut S,
+        key: CellKey,
+        col: u16,
+        row: u16,
+        on_column: bool,
+        on_row: bool,
+    ) -> Result<Quad, SourceFault>
+        requires sw { HasPost (⟦<WholeCells as PostSource>⟧.shapes self.old) key col row }
+        requires se { IsFalse on_column → HasPost (⟦<WholeCells as PostSource>⟧.shapes self.old) key (col + 1) row }
+        requires nw { IsFalse on_row → HasPost (⟦<WholeCells as PostSource>⟧.shapes self.old) key col (row + 1) }
+        requires small { (col < 3601) × (row < 3601) }
+        ensures value { GivesTold (⟦<WholeCells as PostSource>⟧.cells self.old (S.holds _store.old))
+            (λ told. quad_round (post_at told key) col row on_column on_row) result }
+        ensures height { IfOk result ArePosts }
+        // As for one post: the answer is Ok, and cells and store stay as they were.
+        ensures sure { IsOk result }
+        ensures same { self.new ≡ self.old }
+        ensures unused { _store.new ≡ _store.old }
+    {
+        let Some(held) = self.cells.get(&key) else {
+            unreachable!()
+        };
+        Ok(quad_of(held, col, row, on_column, on_row))
     }
 }

@@ -12,7 +12,7 @@ ghost use Rattle.resample.specs.Line.{IsLine, LiesIn};
 
 use crate::block::Block;
 use crate::line::{Line, turn_to};
-use cell_mosaic::{PostSource, SourceFault, blend, coarser_value, posts_round};
+use cell_mosaic::{PostSource, SourceFault, blend, coarser_value};
 use terrain_base::{CellKey, Post, Store, columns, rows};
 use tms_tree::Place;
 
@@ -36,8 +36,7 @@ fn value_between<P: PostSource, S: Store>(
         src.old src.new store.old store.new result }
 {
     let unit = place.d as u128;
-    let quad = posts_round(
-        src,
+    let quad = src.posts_round(
         store,
         key,
         east.post,

@@ -1,5 +1,5 @@
 use Rattle.cell_mosaic.proofs.Keeping.{leaves_then, leaves_err}
-use Rattle.cell_mosaic.proofs.value.posts_round.Goals as goal
+use Rattle.cell_mosaic.proofs.source.PostSource.posts_one_by_one.Goals as goal
 
 pub returns-in_err-se-clause-leaves : goal.returns-in_err-se-clause-leaves
 returns-in_err-se-clause-leaves g c =
