@@ -1,6 +1,6 @@
 -- What is told of a cell that is held or fetched, and what is told after it.
-use Rattle.std.proofs.Common.{◌≡◌, ◌<◌, ℕ, true, ◌&&◌, ◌⊎◌, inl, inr, List, [], ◌∷◌, Contains, map, cond, Option, Some, None, refl, sym, ap, ◌∙◌, subst}
-use Rattle.std.specs.Prelude.{is_some, IfSome, Result, Ok, Err}
+use Rattle.std.proofs.Common.{◌≡◌, ◌+◌, ◌<◌, ℕ, Bool, true, ◌&&◌, ◌⊎◌, inl, inr, List, [], ◌∷◌, Contains, map, cond, Option, Some, None, refl, sym, ap, ◌∙◌, subst}
+use Rattle.std.specs.Prelude.{is_some, IfSome, IsFalse, Result, Ok, Err}
 use Rattle.std.specs.List.{list_all}
 use Rattle.std.specs.Cmp.Lexicographic.{pointwise_decides}
 use Rattle.std.proofs.lemmas.Bool.Decides.{Decides-eqb}
@@ -21,13 +21,14 @@ use Rattle.dted_cell.specs.Cell.{columns_in, rows_in, post_in}
 use Rattle.dted_cell.specs.Trouble.{IsCellAt}
 use Rattle.cell_mosaic.specs.Cells.{Cells, HasPost, post_at, post_or_void}
 use Rattle.cell_mosaic.specs.Source.{GivesTold}
+use Rattle.cell_mosaic.specs.Value.{quad_round}
 use Rattle.cell_mosaic.specs.Whole.{key_in}
 use Rattle.cell_mosaic.specs.declared.fault.SourceFault.{SourceFault}
 use Rattle.cell_cache.specs.declared.slot.Slot.{Slot}
 use Rattle.cell_cache.specs.Cached.{shapes_of_rows, file_of, holds_row, entry_of, is_same, is_fresh, cells_told, cells_through, IsHeldAt, AreHeld}
 use Rattle.cell_cache.specs.CachedLaws.{both, told_at, keys_told, told_over}
 use Rattle.cell_cache.specs.Fetched.{IsFetched}
-use Rattle.cell_cache.specs.Held.{Reaches}
+use Rattle.cell_cache.specs.Held.{Reaches, ReachesRound}
 use Rattle.cell_cache.specs.Slot.{slot_at}
 
 -- ---- slots tell keys apart
@@ -65,6 +66,16 @@ cell_of_key key bytes rows slot at same = record { accepted = at.accepted; squar
 pub reaches : (rows : List Summary) (held : List (Slot × List ℕ)) (key : CellKey) (col row : ℕ) → AreHeld rows held → HasPost (shapes_of_rows rows) key col row → Reaches held key col row
 reaches rows held key col row all has bytes there =
     has_place rows key col row bytes has (cell_of_key key bytes rows (slot_at key) (all (slot_at key) bytes there) (held_cell rows held key bytes all there))
+
+pub reaches_round : (rows : List Summary) (held : List (Slot × List ℕ)) (key : CellKey) (col row : ℕ) (on_column on_row : Bool) → AreHeld rows held
+    → HasPost (shapes_of_rows rows) key col row → (IsFalse on_column → HasPost (shapes_of_rows rows) key (col + 1) row) → (IsFalse on_row → HasPost (shapes_of_rows rows) key col (row + 1))
+    → ReachesRound held key col row on_column on_row
+reaches_round rows held key col row on_column on_row all sw se nw bytes there = record {
+  in_col = (reaches rows held key col row all sw bytes there).0;
+  in_row = (reaches rows held key col row all sw bytes there).1;
+  next_col = λ off. (reaches rows held key (col + 1) row all (se off) bytes there).0;
+  next_row = λ off. (reaches rows held key col (row + 1) all (nw off) bytes there).1;
+}
 
 -- ---- what is told of it
 
@@ -130,6 +141,12 @@ pub held_told : (rows : List Summary) (held : List (Slot × List ℕ)) (files : 
 held_told rows held None key col row bytes all known there told is = absurd (cc)
 held_told rows held (Some files) key col row bytes all known there told is =
     post_told rows held (Some files) key col row bytes known (held_under rows held files told key bytes all there is) told is
+
+-- and so are the posts round a point
+pub round_told : (rows : List Summary) (held : List (Slot × List ℕ)) (files : Option Files) (key : CellKey) (col row : ℕ) (on_column on_row : Bool) (bytes : List ℕ) → AreHeld rows held → contains (shapes_of_rows rows) key ≡ true
+    → Contains held (slot_at key, bytes) → (told : Cells) → cells_through rows held files ≡ Some told → quad_round (post_in bytes) col row on_column on_row ≡ quad_round (post_at told key) col row on_column on_row
+round_told rows held files key col row on_column on_row bytes all known there told is = λ i.
+    quad_round (λ c r. held_told rows held files key c r bytes all known there told is i) col row on_column on_row
 
 -- ---- a cell that was fetched
 

@@ -6,9 +6,9 @@ ghost use Rattle.terrain_base.specs.CellKey.{key_at, key_cmp};
 ghost use Rattle.cell_cache.specs.Cached.{row_key, AreHeld};
 
 use crate::fetch::fetched;
-use crate::held::{eight, held_post, hold, last_post};
+use crate::held::{eight, held_post, hold, last_post, last_quad};
 use crate::slot::Slot;
-use cell_mosaic::{PostSource, SourceFault, post_of};
+use cell_mosaic::{PostSource, Quad, SourceFault, post_of};
 use dted_cell::CellBytes;
 use lru::LruCache;
 use std::alloc::Global;
@@ -186,5 +186,21 @@ impl PostSource for CachedCells {
             return Ok(post);
         }
         self.fetched_post(store, key, col, row)
+    }
+
+    fn posts_round<S: Store>(
+        &mut self,
+        store: &mut S,
+        key: CellKey,
+        col: u16,
+        row: u16,
+        on_column: bool,
+        on_row: bool,
+    ) -> Result<Quad, SourceFault> {
+        if let Some(quad) = last_quad(&self.cells, key, col, row, on_column, on_row) {
+            return Ok(quad);
+        }
+        // The first post fetches the cell, and the others find it as the last.
+        self.posts_one_by_one(store, key, col, row, on_column, on_row)
     }
 }

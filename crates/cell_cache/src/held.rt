@@ -2,11 +2,11 @@
 ghost use Rattle.std.specs.Prelude.{◌≡◌, ◌⊎◌, [], List, ℕ, Contains, IfOk, IfSome, OnErr};
 ghost use Rattle.cell_cache.specs.declared.slot.Slot as slots;
 ghost use Rattle.cell_cache.specs.Slot.{slot_at};
-ghost use Rattle.cell_cache.specs.Held.{Reaches, IsHeldPost};
+ghost use Rattle.cell_cache.specs.Held.{Reaches, IsHeldPost, ReachesRound, IsHeldQuad};
 ghost use Rattle.lru.specs.LruCache.{lru_cache, promoted};
 
 use crate::slot::{Slot, slot_of};
-use cell_mosaic::post_of;
+use cell_mosaic::{Quad, post_of, quad_of};
 use dted_cell::CellBytes;
 use lru::LruCache;
 use std::alloc::Global;
@@ -24,7 +24,17 @@ pub(crate) fn eight(alloc: Global) -> Result<LruCache<Slot, CellBytes>, NoMemory
     Ok(LruCache::new(alloc, most)?)
 }
 
-/// The post of the cell that was used last, where this is the key's. It is not looked up.
+/// The cell that was used last, where this is the key's. It is not looked up.
+fn last_cell(cells: &LruCache<Slot, CellBytes>, key: CellKey) -> Option<&CellBytes>
+    ensures { IfSome result (λ cell. Contains cells.now.entries (slot_at key, cell.now)) }
+{
+    match cells.peek_mru() {
+        Some((slot, cell)) if *slot == slot_of(key) => Some(cell),
+        _ => None,
+    }
+}
+
+/// The post of the cell that was used last, where this is the key's.
 pub(crate) fn last_post(
     cells: &LruCache<Slot, CellBytes>,
     key: CellKey,
@@ -34,10 +44,24 @@ pub(crate) fn last_post(
     requires reaches { Reaches cells.now.entries key col row }
     ensures { IfSome result (IsHeldPost cells.now.entries key col row) }
 {
-    match cells.peek_mru() {
-        Some((slot, cell)) if *slot == slot_of(key) => Some(post_of(cell, col, row)),
-        _ => None,
-    }
+    let cell = last_cell(cells, key)?;
+    Some(post_of(cell, col, row))
+}
+
+/// The posts round a point of the cell that was used last, where this is the key's.
+pub(crate) fn last_quad(
+    cells: &LruCache<Slot, CellBytes>,
+    key: CellKey,
+    col: u16,
+    row: u16,
+    on_column: bool,
+    on_row: bool,
+) -> Option<Quad>
+    requires reaches { ReachesRound cells.now.entries key col row on_column on_row }
+    ensures { IfSome result (IsHeldQuad cells.now.entries key col row on_column on_row) }
+{
+    let cell = last_cell(cells, key)?;
+    Some(quad_of(cell, col, row, on_column, on_row))
 }
 
 /// The post of the key's cell, where it is held. The cell is then the one that was used last.

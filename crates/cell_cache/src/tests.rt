@@ -6,7 +6,7 @@ ghost use Rattle.cell_cache.specs.Cached.{row_key};
 
 use super::*;
 use crate::cached::key_of;
-use cell_mosaic::{PostSource, SourceFault};
+use cell_mosaic::{PostSource, Quad, SourceFault};
 use dted_cell::{CellBytes, CellTrouble};
 use std::alloc::{AllocError, Global};
 use terrain_base::{
@@ -130,6 +130,27 @@ fn post_from<P: PostSource>(
     Some(cells.post(store, CellKey { square, level }, col, row))
 }
 
+/// The same of the posts round a point.
+fn quad_from<P: PostSource>(
+    cells: &mut P,
+    store: &mut SureStore,
+    key: CellKey,
+    col: u16,
+    row: u16,
+    on_column: bool,
+) -> Option<Result<Quad, SourceFault>> {
+    let square = key.square;
+    let level = cells.shape(square)?;
+    if level != key.level || col >= columns(square, level) || row >= rows(level) {
+        return None;
+    }
+    if row + 1 >= rows(level) || (!on_column && col + 1 >= columns(square, level)) {
+        return None;
+    }
+    let key = CellKey { square, level };
+    Some(cells.posts_round(store, key, col, row, on_column, false))
+}
+
 #[test]
 fn posts_through_the_cache_are_those_of_the_files(rt: HostRuntime) {
     let alloc = rt.alloc();
@@ -144,6 +165,30 @@ fn posts_through_the_cache_are_those_of_the_files(rt: HostRuntime) {
             assert_eq!(rt; post, Some(Ok(post_of_column(east, col))));
         }
         assert_eq!(rt; cells.coarser(key), None);
+    }
+}
+
+#[test]
+fn posts_round_a_point_are_those_of_the_files(rt: HostRuntime) {
+    let alloc = rt.alloc();
+    let mut store = SureStore::new(alloc);
+    let summaries = stored(alloc, &mut store).expect(&rt, "cells");
+    let mut cells = source_over(alloc, &summaries).expect(&rt, "a source");
+    for turn in 0..2 * CELLS {
+        let east = turn % CELLS;
+        let key = key_at(east).expect(&rt, "a key");
+        let metres = post_of_column(east, 0);
+        let void = Post::Void;
+        // The first is of a cell that was let go, the others of the last.
+        for (col, on_column, [sw, se, nw, ne]) in [
+            (3, false, [metres, metres, metres, metres]),
+            (19, false, [metres, void, metres, void]),
+            (19, true, [metres, void, metres, void]),
+            (20, true, [void, void, void, void]),
+        ] {
+            let quad = quad_from(&mut cells, &mut store, key, col, 7, on_column);
+            assert_eq!(rt; quad, Some(Ok(Quad { sw, se, nw, ne })));
+        }
     }
 }
 
