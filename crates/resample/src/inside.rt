@@ -66,10 +66,16 @@ fn value_by_lines<P: PostSource, S: Store>(
     ensures leaves { Leaves P.cells P.shapes P.sure P.spoilt S.holds S.log S.faults
         src.old src.new store.old store.new result }
 {
+    let across = columns(key.square, key.level);
+    let along = rows(key.level);
+    // In a block they are turned already, and need not be copied.
+    if east.posts == across && north.posts == along {
+        return value_between(src, store, key, place, east, north);
+    }
     let mut meridian = *east;
-    turn_to(&mut meridian, columns(key.square, key.level), place.d);
+    turn_to(&mut meridian, across, place.d);
     let mut parallel = *north;
-    turn_to(&mut parallel, rows(key.level), place.d);
+    turn_to(&mut parallel, along, place.d);
     value_between(src, store, key, place, &meridian, &parallel)
 }
 
