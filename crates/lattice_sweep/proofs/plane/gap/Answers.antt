@@ -7,16 +7,23 @@ use Rattle.lattice_sweep.proofs.plane.gap.Goals as goal
 
 pub returns-clause-value : goal.returns-clause-value
 returns-clause-value c =
-    let r1 = c.ranges.lift in let r2 = c.ranges.under in let r3 = c.ranges.metres in
-    let f1 : FitsSigned w64 c.weighted.result = omega (arith, ints, c.weighted.ensures.size) in
-    let f2 : FitsSigned w64 (c.args.lift -ℤ c.weighted.result) = omega (arith, ints, c.weighted.ensures.size, c.requires.low, c.requires.high, c.requires.under) in
-    let f0 : FitsSigned w64 c.from.result = search rules in
-    let e0 = simp to_z-of_z at c.from.ensures in
-    let e1 = simp to_z-of_z at c.weighted.ensures.value in
-    let e2 = simp to_z-of_z at c.unsigned_abs.ensures.value in
-    e2 ∙ ap (λ z. unsigned_abs (c.args.lift -ℤ z)) (e1 ∙ ap (λ z. z *ℤ c.args.under) e0)
+    let lift_range = c.ranges.lift in let under_range = c.ranges.under in let metres_range = c.ranges.metres in
+    let weighted_fits : FitsSigned w64 c.weighted.result = omega (arith, ints, c.weighted.ensures.size) in
+    let difference_fits : FitsSigned w64 (c.args.lift -ℤ c.weighted.result) =
+    omega (arith, ints, c.weighted.ensures.size, c.requires.low, c.requires.high, c.requires.under) in
+    let metres_fits : FitsSigned w64 c.from.result = search rules in
+    let metres_value = simp to_z-of_z at c.from.ensures in
+    let weighted_value = simp to_z-of_z at c.weighted.ensures.value in
+    let gap_value = simp to_z-of_z at c.unsigned_abs.ensures.value in
+    gap_value ∙ ap (λ z. unsigned_abs (c.args.lift -ℤ z)) (weighted_value ∙ ap (λ z. z *ℤ c.args.under) metres_value)
 
 pub returns-clause-size : goal.returns-clause-size
 returns-clause-size c =
     let v = returns-clause-value c in
-    omega (arith, ints, v, gap_within c.args.lift c.args.under c.args.metres c.requires.above_zero c.requires.low c.requires.high c.requires.metres)
+    omega (
+      arith,
+      ints,
+      v,
+      gap_within c.args.lift c.args.under c.args.metres
+          c.requires.above_zero c.requires.low c.requires.high c.requires.metres,
+    )
