@@ -7,33 +7,37 @@ use Rattle.post_bound.proofs.axes.axis.Goals as goal
 
 pub returns-clause-points : goal.returns-clause-points
 returns-clause-points c i =
-    let r1 = c.ranges.seconds in let r2 = c.ranges.k in
-    let f1 : FitsSigned w64 c.start.result = search rules in let f2 : FitsSigned w64 c.widened.result = search rules in
-    let f3 : FitsSigned w64 c.times.result = search rules in let f4 : FitsSigned w64 c.widened-2.result = search rules in
-    let f5 : FitsSigned w64 c.from.result = search rules in
-    let a = simp to_z-of_z at c.start.ensures.value in
-    let b = simp to_z-of_z at c.widened.ensures.value in
-    let d = simp to_z-of_z at c.times.ensures.value in
-    let e = simp to_z-of_z at c.widened-2.ensures.value in
+    let seconds_range = c.ranges.seconds in let scale_range = c.ranges.k in
+    let start_fits : FitsSigned w64 c.start.result = search rules in
+    let first_fits : FitsSigned w64 c.widened.result = search rules in
+    let scaled_spacing_fits : FitsSigned w64 c.times.result = search rules in
+    let step_fits : FitsSigned w64 c.widened-2.result = search rules in
+    let spacing_fits : FitsSigned w64 c.from.result = search rules in
+    let start_value = simp to_z-of_z at c.start.ensures.value in
+    let first_value = simp to_z-of_z at c.widened.ensures.value in
+    let scaled_spacing_value = simp to_z-of_z at c.times.ensures.value in
+    let step_value = simp to_z-of_z at c.widened-2.ensures.value in
     let k = c.args.k in
     simp to_z-of_z
-    (ap (λ (z : ℤ). z +ℤ c.widened-2.result *ℤ pos i) (b ∙ ap (λ (z : ℤ). pos 32767 *ℤ z) a)
+    (ap (λ (z : ℤ). z +ℤ c.widened-2.result *ℤ pos i) (first_value ∙ ap (λ (z : ℤ). pos 32767 *ℤ z) start_value)
     ∙ ap (λ (z : ℤ). pos 32767 *ℤ (c.args.seconds *ℤ k -ℤ pos (10125 * c.args.stripe)) +ℤ z *ℤ pos i)
-    (e ∙ ap (λ (z : ℤ). pos 32767 *ℤ z) (d ∙ ap (λ (z : ℤ). z *ℤ k) c.from.ensures))
+    (step_value ∙ ap (λ (z : ℤ). pos 32767 *ℤ z) (scaled_spacing_value ∙ ap (λ (z : ℤ). z *ℤ k) c.from.ensures))
     ∙ place_is c.args.seconds k c.args.stripe c.args.step i)
 
 pub returns-clause-axis : goal.returns-clause-axis
 returns-clause-axis c =
-    let r1 = c.ranges.seconds in let r2 = c.ranges.k in
-    let f2 : FitsSigned w64 c.widened.result = search rules in
-    let f3 : FitsSigned w64 c.times.result = search rules in let f4 : FitsSigned w64 c.widened-2.result = search rules in
-    let f5 : FitsSigned w64 c.from.result = search rules in
-    let d = simp to_z-of_z at c.times.ensures.value in
-    let e = simp to_z-of_z at c.widened-2.ensures.value in
-    let s = step_size (pos c.args.step) c.args.k (omega (arith, ints, c.requires.step)) (omega (arith, ints, c.requires.step)) c.requires.k.0 c.requires.k.1 in
-    let w = d ∙ ap (λ (z : ℤ). z *ℤ c.args.k) c.from.ensures in
+    let seconds_range = c.ranges.seconds in let scale_range = c.ranges.k in
+    let first_fits : FitsSigned w64 c.widened.result = search rules in
+    let scaled_spacing_fits : FitsSigned w64 c.times.result = search rules in
+    let step_fits : FitsSigned w64 c.widened-2.result = search rules in
+    let spacing_fits : FitsSigned w64 c.from.result = search rules in
+    let scaled_spacing_value = simp to_z-of_z at c.times.ensures.value in
+    let step_value = simp to_z-of_z at c.widened-2.ensures.value in
+    let step_bounds = step_size (pos c.args.step) c.args.k (omega (arith, ints, c.requires.step))
+    (omega (arith, ints, c.requires.step)) c.requires.k.0 c.requires.k.1 in
+    let scaled_spacing_is = scaled_spacing_value ∙ ap (λ (z : ℤ). z *ℤ c.args.k) c.from.ensures in
     simp to_z-of_z (record {
       first = omega (arith, c.widened.ensures.size);
-      forwards = omega (arith, ints, e, w, s.0);
-      step = omega (arith, ints, e, w, s.1);
+      forwards = omega (arith, ints, step_value, scaled_spacing_is, step_bounds.0);
+      step = omega (arith, ints, step_value, scaled_spacing_is, step_bounds.1);
     })
