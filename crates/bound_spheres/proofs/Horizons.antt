@@ -130,10 +130,10 @@ pub not_above : (c p : Vector) (m : ℕ) → reach m c p <ℤ pos 0 → false �
 unfolding hides_of
 not_above c p m h = second_false _ _ (second_false _ _ (first_false _ _ (int_le_no _ _ h)))
 
-max_nonneg : (n : ℤ) → pos 0 ≤ℤ int_max n (pos 0)
+pub max_nonneg : (n : ℤ) → pos 0 ≤ℤ int_max n (pos 0)
 max_nonneg n = omega (arith, ints, clamps)
 
-nat_test : (e x v : ℤ) (k n : ℕ) → pos 0 ≤ℤ e → pos 0 ≤ℤ v → x ≡ pos n
+pub nat_test : (e x v : ℤ) (k n : ℕ) → pos 0 ≤ℤ e → pos 0 ≤ℤ v → x ≡ pos n
     → nat_le ((unsigned_abs e * k) * n) ((unsigned_abs v * unsigned_abs v) * 2 ^ 36)
     ≡ int_le ((e *ℤ pos k) *ℤ x) ((v *ℤ v) *ℤ pos (2 ^ 36))
 nat_test (pos e) x (pos v) k n h i f = rw f refl
@@ -204,7 +204,7 @@ in_ratio m k a b h n =
     less x y d h e = omega (arith, ints, h, e)
 
 -- squares of numbers from 0 on
-squares : (x y : ℤ) → pos 0 ≤ℤ x → x ≤ℤ y → (x *ℤ x) ≤ℤ (y *ℤ y)
+pub squares : (x y : ℤ) → pos 0 ≤ℤ x → x ≤ℤ y → (x *ℤ x) ≤ℤ (y *ℤ y)
 squares (pos x) (pos y) h k = let l : x ≤ y = omega (arith, ints, k) in omega (arith, ints, mul-le-mul l l)
 squares (negsuc x) y h k = absurd (omega (arith, ints, h))
 squares (pos x) (negsuc y) h k = absurd (omega (arith, ints, k))

@@ -7,3 +7,4 @@ pub mod Rising
 pub mod Scaling
 pub mod SphereOf
 pub mod Spheres
+pub mod Together

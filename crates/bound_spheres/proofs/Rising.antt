@@ -68,7 +68,7 @@ finds_none p a n (Some i) f b = clash (p i) f.2 (b i f.0 f.1)
 abbrev all_at : Vector → List Vector → ℕ → Bool
 all_at c ps m = list_all (λ p. hides_of c p m) ps
 
-and_true : (a b : Bool) → a ≡ true → b ≡ true → (a && b) ≡ true
+pub and_true : (a b : Bool) → a ≡ true → b ≡ true → (a && b) ≡ true
 and_true a b h k = rw (h, k) refl
 
 first_no : (a b : Bool) → a ≡ false → (a && b) ≡ false

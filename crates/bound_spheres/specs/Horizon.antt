@@ -87,6 +87,13 @@ hides_of c p m =
     && int_le ((int_max (length_squared p -ℤ pos (2 ^ 36)) (pos 0) *ℤ pos (m * m)) *ℤ length_squared (cross c p))
     ((reach m c p *ℤ reach m c p) *ℤ pos (2 ^ 36))))
 
+-- ---- several corners at once
+
+-- no corner is longer than the square says, and none lies less far along the centre than the product says
+pub record Bounds (c : Vector) (corners : List Vector) (square product : ℤ) : Type 0 where
+  pub squares : All (λ p. length_squared p ≤ℤ square) corners
+  pub products : All (λ p. product ≤ℤ dot c p) corners
+
 -- ---- the horizon
 
 -- the least multiple from 256 to 4096, in 256ths, that hides all corners of all boxes

@@ -1,10 +1,10 @@
 // The certified horizon of boxes.
 ghost use Rattle.std.specs.Prelude.{◌≡◌, ℕ, ℤ, ◌+◌, ◌*◌, ◌-◌, ◌^◌, ◌<◌, ◌≤◌, ◌≤ℤ◌, ◌-ℤ◌, ◌*ℤ◌, nat_le, pos, true, false, All};
-ghost use Rattle.std.specs.Prelude.{unsigned_abs};
+ghost use Rattle.std.specs.Prelude.{unsigned_abs, IsTrue};
 ghost use Rattle.std.specs.Int.{int_max};
 ghost use Rattle.std.specs.List.{list_all};
 ghost use Rattle.ecef_boxes.specs.Bounds.{IsBoxWithin};
-ghost use Rattle.bound_spheres.specs.Horizon.{IsHorizon, IsVectorWithin, dot, hides_of, horizon_of};
+ghost use Rattle.bound_spheres.specs.Horizon.{Bounds, IsHorizon, IsVectorWithin, dot, hides_of, horizon_of};
 ghost use Rattle.bound_spheres.specs.Sphere.{IsCentreWithin};
 
 use crate::Sphere;
@@ -109,6 +109,47 @@ fn hides(c: &Vector, p: &Vector, m: u16) -> bool
     is_beyond(w.unsigned_abs(), excess(corner), m, across)
 }
 
+// The greatest square of the corners' lengths, and the least inner product of the centre with them.
+fn bounds(c: &Vector, corners: &[Vector]) -> (i64, i64)
+    requires c { IsVectorWithin 21 c.now }
+    requires corners { All (IsVectorWithin 21) corners.now }
+    ensures { Bounds c.now corners.now result.0 result.1 }
+{
+    let mut square = 0;
+    let mut product = 0x1000_0000_0000;
+    for next in corners {
+        square = square.max(inner(next, next));
+        product = product.min(inner(c, next));
+    }
+    (square, product)
+}
+
+// Whether m/256 times the centre would hide even a corner as long as the longest that lies as little along the centre
+// as any. Then it hides all corners. Those of a small box are much alike, so that one test mostly does for all.
+fn hides_farthest(c: &Vector, corners: &[Vector], m: u16) -> bool
+    requires c { IsVectorWithin 21 c.now }
+    requires corners { All (IsVectorWithin 21) corners.now }
+    requires m { m ≤ 4096 }
+    ensures { IsTrue result → list_all (λ p. hides_of c.now p m) corners.now ≡ true }
+{
+    let centre = inner(c, c);
+    let (square, product) = bounds(c, corners);
+    if square < 0 || square > NEAR || centre > NEAR || product < 0 || product > NEAR {
+        return false;
+    }
+    let w = over(m, product, square);
+    let (longest, away, along) = (
+        square.unsigned_abs(),
+        centre.unsigned_abs(),
+        product.unsigned_abs(),
+    );
+    if w < 0 || along as u128 * along as u128 > longest as u128 * away as u128 {
+        return false;
+    }
+    let across = across(longest, away, along);
+    is_beyond(w.unsigned_abs(), excess(square), m, across)
+}
+
 // Whether m/256 times the centre hides all corners.
 fn hides_all(c: &Vector, corners: &[Vector], m: u16) -> bool
     requires c { IsVectorWithin 21 c.now }
@@ -116,6 +157,9 @@ fn hides_all(c: &Vector, corners: &[Vector], m: u16) -> bool
     requires m { m ≤ 4096 }
     ensures { result ≡ list_all (λ p. hides_of c.now p m) corners.now }
 {
+    if hides_farthest(c, corners, m) {
+        return true;
+    }
     for next in corners {
         if !hides(c, next, m) {
             return false;
