@@ -54,21 +54,24 @@ header_back header text rest h e =
     let sphere = point_text header.sphere_centre in
     let radius = little_bytes 8 header.radius in
     let horizon = point_text header.horizon in
-    let r5 = horizon ++ rest in
-    let r4 = radius ++ r5 in
-    let r3 = sphere ++ r4 in
-    let r2 = greatest ++ r3 in
-    let r1 = least ++ r2 in
-    let whole : drop 0 text ≡ point_text header.centre ++ r1 = e ∙ simp append_assoc in
-    let centre = point_back text 0 header.centre r1 h.centre whole in
-    let at_least : number_at 4 text 24 ≡ header.least = number_here 4 text 24 header.least r2 centre.1 h.least in
-    let d28 : drop 28 text ≡ r2 = behind text 24 4 least r2 centre.1 refl in
-    let at_greatest : number_at 4 text 28 ≡ header.greatest = number_here 4 text 28 header.greatest r3 d28 h.greatest in
-    let d32 : drop 32 text ≡ r3 = behind text 28 4 greatest r3 d28 refl in
-    let sphere_back = point_back text 32 header.sphere_centre r4 h.sphere_centre d32 in
-    let at_radius : number_at 8 text 56 ≡ header.radius = number_here 8 text 56 header.radius r5 sphere_back.1 h.radius in
-    let d64 : drop 64 text ≡ r5 = behind text 56 8 radius r5 sphere_back.1 refl in
-    let horizon_back = point_back text 64 header.horizon rest h.horizon d64 in
+    let after_radius = horizon ++ rest in
+    let after_sphere = radius ++ after_radius in
+    let after_greatest = sphere ++ after_sphere in
+    let after_least = greatest ++ after_greatest in
+    let after_centre = least ++ after_least in
+    let whole : drop 0 text ≡ point_text header.centre ++ after_centre = e ∙ simp append_assoc in
+    let centre = point_back text 0 header.centre after_centre h.centre whole in
+    let at_least : number_at 4 text 24 ≡ header.least =
+    number_here 4 text 24 header.least after_least centre.1 h.least in
+    let behind_least : drop 28 text ≡ after_least = behind text 24 4 least after_least centre.1 refl in
+    let at_greatest : number_at 4 text 28 ≡ header.greatest =
+    number_here 4 text 28 header.greatest after_greatest behind_least h.greatest in
+    let behind_greatest : drop 32 text ≡ after_greatest = behind text 28 4 greatest after_greatest behind_least refl in
+    let sphere_back = point_back text 32 header.sphere_centre after_sphere h.sphere_centre behind_greatest in
+    let at_radius : number_at 8 text 56 ≡ header.radius =
+    number_here 8 text 56 header.radius after_radius sphere_back.1 h.radius in
+    let behind_radius : drop 64 text ≡ after_radius = behind text 56 8 radius after_radius sphere_back.1 refl in
+    let horizon_back = point_back text 64 header.horizon rest h.horizon behind_radius in
     (rw (centre.0, at_least, at_greatest, sphere_back.0, at_radius, horizon_back.0) refl, horizon_back.1)
 
 -- ---- the edges
