@@ -259,10 +259,11 @@ module _ (slab : Slab) (gap : slab.low <ℤ slab.high) (floor : pos 0 ≤ℤ sla
       let rest : FullFrom m.right ms = λ k x hk x0 x1 l.
       let hs : pos 0 ≤ℤ (k *ℤ pos 2) = omega (arith, ints, hk) in
       let s = k *ℤ pos 2 in let y = k *ℤ middle in
-      let l1 = still_strictly_right m.left m.right s x y um (rises slab gap m.right w.right)
+      let right_of_left_side = still_strictly_right m.left m.right s x y um (rises slab gap m.right w.right)
       (omega (arith, ints, w.wide s x y hs (low_in k hk) (high_in k hk), lead_at m.left m.right s x y)) l in
-      let l2 = still_strictly_right g m.left s x y ug um (omega (arith, ints, no_lead slab gap g m.left same s y)) l1 in
-      ⊎_elim (λ h. absurd (omega (arith, ints, l, (w.inside s x y h).1))) (λ h. h) (full k x hk x0 x1 l2) in
+      let right_of_start = still_strictly_right g m.left s x y ug um
+      (omega (arith, ints, no_lead slab gap g m.left same s y)) right_of_left_side in
+      ⊎_elim (λ h. absurd (omega (arith, ints, l, (w.inside s x y h).1))) (λ h. h) (full k x hk x0 x1 right_of_start) in
       (same, places m.right ms w.right ws.0.2 ws.1 a.1 d.1 rest (next_cross m ms ws.0 ws.1 a.0 d.0))
 
   -- from the west edge on

@@ -189,16 +189,16 @@ module _ (levels : List ℤ) (ts : List Tri) (placed : ArePlaced levels ts) (tur
         all_at IsTileTri ts j u placed.on_tile q.0 q.1 in
         let ha = still_strictly t s x y ta a in let hb = still_strictly u s x y tb b in
         let ho : pos 0 ≤ℤ o = omega (arith, ints, hs) in
-        let y0 : pos 0 ≤ℤ y = omega (
+        let above_south : pos 0 ≤ℤ y = omega (
           arith,
           ints,
           above_least t (ccw i t p) s x y (strictly_holds t s x y a)
               (pos 0) ta.a.south ta.b.south ta.c.south,
           by_ring (mul (var 0) (num 0)) (num 0) (s ∷ []) refl,
         ) in
-        let y1 : oy ≤ℤ (o *ℤ pos 32767) = below_greatest t (ccw i t p) o ox oy (strictly_holds t o ox oy ha)
+        let below_north : oy ≤ℤ (o *ℤ pos 32767) = below_greatest t (ccw i t p) o ox oy (strictly_holds t o ox oy ha)
         (pos 32767) ta.a.north ta.b.north ta.c.north in
-        let f = ceiling_at o oy (omega (arith, ints, y0)) y1 in
+        let f = ceiling_at o oy (omega (arith, ints, above_south)) below_north in
         let w = slabs f.slab f.is in let r = range_of f.slab f.is in
         let top : oy <ℤ (o *ℤ f.slab.high) = off_below s y f.slab.high f.high in
         let ra : Reaches f.slab t = record {
@@ -339,37 +339,39 @@ module _ (levels : List ℤ) (ts : List Tri) (placed : ArePlaced levels ts) (tur
       one_pair : (s x y : ℤ) → pos 1 ≤ℤ s → (i j : ℕ) (t u : Tri) → i < j → IsAt ts i t → IsAt ts j u → Holds s x y t
           → Holds s x y u → SameHeight s x y t u
       one_pair s x y hs i j t u l p q a b =
-          let s0 : pos 0 ≤ℤ s = omega (arith, ints, hs) in let s1 : pos 0 <ℤ s = omega (arith, ints, hs) in
+          let scale_nonnegative : pos 0 ≤ℤ s = omega (arith, ints, hs) in
+          let scale_positive : pos 0 <ℤ s = omega (arith, ints, hs) in
           let ta = all_at IsTileTri ts i t placed.on_tile p.0 p.1 in let tb =
           all_at IsTileTri ts j u placed.on_tile q.0 q.1 in
-          let y0 : pos 0 ≤ℤ y = omega (
+          let above_south : pos 0 ≤ℤ y = omega (
             arith,
             ints,
             above_least t (ccw i t p) s x y a (pos 0) ta.a.south ta.b.south ta.c.south,
             by_ring (mul (var 0) (num 0)) (num 0) (s ∷ []) refl,
           ) in
-          let y1 : y ≤ℤ (s *ℤ pos 32767) = below_greatest t (ccw i t p) s x y a
+          let below_north : y ≤ℤ (s *ℤ pos 32767) = below_greatest t (ccw i t p) s x y a
           (pos 32767) ta.a.north ta.b.north ta.c.north in
           by_lt_z (pos 0) y
           (λ k. by_lt_z y (s *ℤ pos 32767)
           (λ m.
-          let c = ceiling_at s y k y1 in let f = floor_at s y y0 m in
-          let wt = where_is c.slab f.slab c.is f.is s x y s1 c.low c.high f.low f.high i t p a in
-          let wu = where_is c.slab f.slab c.is f.is s x y s1 c.low c.high f.low f.high j u q b in
+          let c = ceiling_at s y k below_north in let f = floor_at s y above_south m in
+          let wt = where_is c.slab f.slab c.is f.is s x y scale_positive c.low c.high f.low f.high i t p a in
+          let wu = where_is c.slab f.slab c.is f.is s x y scale_positive c.low c.high f.low f.high j u q b in
           ⊎_elim
           (λ rt. ⊎_elim
-          (λ ru. same_in c.slab c.is s x y s0 (weaken c.low) c.high i j t u l p q rt ru a b)
-          (λ ru. across c.slab f.slab c.is f.is ru.meet s x y s1 ru.on i j t u p q rt ru.reaches a b) wu)
+          (λ ru. same_in c.slab c.is s x y scale_nonnegative (weaken c.low) c.high i j t u l p q rt ru a b)
+          (λ ru. across c.slab f.slab c.is f.is ru.meet s x y scale_positive ru.on i j t u p q rt ru.reaches a b) wu)
           (λ rt. ⊎_elim
-          (λ ru. sym (across c.slab f.slab c.is f.is rt.meet s x y s1 rt.on j i u t q p ru rt.reaches b a))
-          (λ ru. same_in f.slab f.is s x y s0 f.low (weaken f.high) i j t u l p q rt.reaches ru.reaches a b) wu) wt)
+          (λ ru. sym (across c.slab f.slab c.is f.is rt.meet s x y scale_positive rt.on j i u t q p ru rt.reaches b a))
+          (λ ru. same_in f.slab f.is s x y scale_nonnegative f.low (weaken f.high) i j t u l p q
+          rt.reaches ru.reaches a b) wu) wt)
           (λ m.
-          let c = ceiling_at s y k y1 in
-          same_in c.slab c.is s x y s0 (weaken c.low) c.high i j t u l p q (at_top c i t p ta a m)
+          let c = ceiling_at s y k below_north in
+          same_in c.slab c.is s x y scale_nonnegative (weaken c.low) c.high i j t u l p q (at_top c i t p ta a m)
           (at_top c j u q tb b m) a b))
           (λ k.
-          let f = floor_at s y y0 (omega (arith, ints, k, hs)) in
-          same_in f.slab f.is s x y s0 f.low (weaken f.high) i j t u l p q (at_bottom f i t p ta a k)
+          let f = floor_at s y above_south (omega (arith, ints, k, hs)) in
+          same_in f.slab f.is s x y scale_nonnegative f.low (weaken f.high) i j t u l p q (at_bottom f i t p ta a k)
           (at_bottom f j u q tb b k) a b)
         where
           at_top : (c : SlabAt (λ v. (s *ℤ v) <ℤ y) (λ v. y ≤ℤ (s *ℤ v))) (i : ℕ) (t : Tri) → IsAt ts i t → IsTileTri t

@@ -24,31 +24,31 @@ overflow_add-result c = omega (
 pub returns-clause-value : goal.returns-clause-value
 returns-clause-value c =
     let g = c.args.segment.now in let r = c.ranges.v in
-    let f1 : FitsSigned w64 g.low.u = omega (arith, ints, c.requires.segment) in
-    let f2 : FitsSigned w64 g.high.u = omega (arith, ints, c.requires.segment) in
-    let f3 : FitsSigned w64 g.low.v = omega (arith, ints, c.requires.segment) in
-    let f4 : FitsSigned w64 g.high.v = omega (arith, ints, c.requires.segment) in
-    let d1 : FitsSigned w64 (g.high.v -ℤ c.args.v) = omega (
+    let low_u_fits : FitsSigned w64 g.low.u = omega (arith, ints, c.requires.segment) in
+    let high_u_fits : FitsSigned w64 g.high.u = omega (arith, ints, c.requires.segment) in
+    let low_v_fits : FitsSigned w64 g.low.v = omega (arith, ints, c.requires.segment) in
+    let high_v_fits : FitsSigned w64 g.high.v = omega (arith, ints, c.requires.segment) in
+    let above_level_fits : FitsSigned w64 (g.high.v -ℤ c.args.v) = omega (
       arith,
       ints,
       c.requires.segment,
       c.requires.low,
       c.requires.high,
     ) in
-    let d2 : FitsSigned w64 (c.args.v -ℤ g.low.v) = omega (
+    let below_level_fits : FitsSigned w64 (c.args.v -ℤ g.low.v) = omega (
       arith,
       ints,
       c.requires.segment,
       c.requires.low,
       c.requires.high,
     ) in
-    let p1 : FitsSigned w64 c.product-low.result = omega (
+    let low_product_fits : FitsSigned w64 c.product-low.result = omega (
       arith,
       ints,
       c.product-low.ensures.low,
       c.product-low.ensures.high,
     ) in
-    let p2 : FitsSigned w64 c.product-high.result = omega (
+    let high_product_fits : FitsSigned w64 c.product-high.result = omega (
       arith,
       ints,
       c.product-high.ensures.low,
@@ -63,9 +63,9 @@ returns-clause-value c =
       c.product-high.ensures.low,
       c.product-high.ensures.high,
     ) in
-    let e1 = simp to_z-of_z at c.product-low.ensures.value in
-    let e2 = simp to_z-of_z at c.product-high.ensures.value in
-    simp to_z-of_z (cc (e1, e2))
+    let low_product_value = simp to_z-of_z at c.product-low.ensures.value in
+    let high_product_value = simp to_z-of_z at c.product-high.ensures.value in
+    simp to_z-of_z (cc (low_product_value, high_product_value))
 
 pub returns-clause-low : goal.returns-clause-low
 returns-clause-low c =
@@ -81,31 +81,31 @@ returns-clause-low c =
 pub returns-clause-high : goal.returns-clause-high
 returns-clause-high c =
     let g = c.args.segment.now in let r = c.ranges.v in
-    let f1 : FitsSigned w64 g.low.u = omega (arith, ints, c.requires.segment) in
-    let f2 : FitsSigned w64 g.high.u = omega (arith, ints, c.requires.segment) in
-    let f3 : FitsSigned w64 g.low.v = omega (arith, ints, c.requires.segment) in
-    let f4 : FitsSigned w64 g.high.v = omega (arith, ints, c.requires.segment) in
-    let d1 : FitsSigned w64 (g.high.v -ℤ c.args.v) = omega (
+    let low_u_fits : FitsSigned w64 g.low.u = omega (arith, ints, c.requires.segment) in
+    let high_u_fits : FitsSigned w64 g.high.u = omega (arith, ints, c.requires.segment) in
+    let low_v_fits : FitsSigned w64 g.low.v = omega (arith, ints, c.requires.segment) in
+    let high_v_fits : FitsSigned w64 g.high.v = omega (arith, ints, c.requires.segment) in
+    let above_level_fits : FitsSigned w64 (g.high.v -ℤ c.args.v) = omega (
       arith,
       ints,
       c.requires.segment,
       c.requires.low,
       c.requires.high,
     ) in
-    let d2 : FitsSigned w64 (c.args.v -ℤ g.low.v) = omega (
+    let below_level_fits : FitsSigned w64 (c.args.v -ℤ g.low.v) = omega (
       arith,
       ints,
       c.requires.segment,
       c.requires.low,
       c.requires.high,
     ) in
-    let e1 = simp to_z-of_z at c.product-low.ensures.value in
-    let e2 = simp to_z-of_z at c.product-high.ensures.value in
+    let low_product_value = simp to_z-of_z at c.product-low.ensures.value in
+    let high_product_value = simp to_z-of_z at c.product-high.ensures.value in
     omega (
       arith,
       ints,
-      e1,
-      e2,
+      low_product_value,
+      high_product_value,
       c.product-low.ensures.low,
       c.product-high.ensures.low,
       c.product-low.ensures.high,
