@@ -7,10 +7,10 @@ use Rattle.mesh_query.proofs.ends.start.Goals as goal
 pub returns : goal.returns
 returns c =
     let p = c.args.place.now in
-    let r2 : FitsSigned w64 p.u = omega (arith, ints, c.requires.place) in
-    let r3 : FitsSigned w64 p.v = omega (arith, ints, c.requires.place) in
-    let f1 : FitsSigned w64 c.area.result = omega (arith, ints, c.area.ensures.size) in
-    let f2 : FitsSigned w64 c.lift.result = omega (arith, ints, c.lift.ensures.size) in
+    let u_fits : FitsSigned w64 p.u = omega (arith, ints, c.requires.place) in
+    let v_fits : FitsSigned w64 p.v = omega (arith, ints, c.requires.place) in
+    let area_fits : FitsSigned w64 c.area.result = omega (arith, ints, c.area.ensures.size) in
+    let lift_fits : FitsSigned w64 c.lift.result = omega (arith, ints, c.lift.ensures.size) in
     let h = simp to_z-of_z at c.holder.ensures in
     simp to_z-of_z
     (start_is c.args.tris.now p c.holder.result _ c.area.result c.lift.result c.requires.covers.counter_clockwise h

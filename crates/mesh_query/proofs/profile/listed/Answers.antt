@@ -6,9 +6,9 @@ use Rattle.mesh_query.proofs.profile.listed.Goals as goal
 
 pub returns : goal.returns
 returns c =
-    let f1 : FitsSigned w64 c.start-end.result.under =
+    let under_fits : FitsSigned w64 c.start-end.result.under =
     omega (arith, ints, c.start-end.ensures.above_zero, c.start-end.ensures.under_size) in
-    let f2 : FitsSigned w64 c.start-end.result.height = omega (arith, ints, c.start-end.ensures.height_size) in
+    let height_fits : FitsSigned w64 c.start-end.result.height = omega (arith, ints, c.start-end.ensures.height_size) in
     let is = simp to_z-of_z at c.with_rank-2.ensures.crossing in
     rw (c.in_ok-push-2.ensures.items, c.in_ok-push.ensures.items)
     (listed_is c.args.tris.now c.args.from.now c.args.to.now c.in_ok-found.found.items c.with_rank.result
