@@ -13,28 +13,28 @@ overflow_sub-result c = omega (arith, ints, c.product-across.ensures, c.product-
 pub returns-clause-value : goal.returns-clause-value
 returns-clause-value c =
     let t = c.args.tri.now in
-    let f1 : FitsSigned w64 t.a.u = omega (arith, ints, c.requires.a) in
-    let f2 : FitsSigned w64 t.a.v = omega (arith, ints, c.requires.a) in
-    let f3 : FitsSigned w64 t.b.u = omega (arith, ints, c.requires.b) in
-    let f4 : FitsSigned w64 t.b.v = omega (arith, ints, c.requires.b) in
-    let f5 : FitsSigned w64 t.c.u = omega (arith, ints, c.requires.c) in
-    let f6 : FitsSigned w64 t.c.v = omega (arith, ints, c.requires.c) in
-    let g1 : FitsSigned w64 (t.b.u -ℤ t.a.u) = omega (arith, ints, c.requires.a, c.requires.b) in
-    let g2 : FitsSigned w64 (t.b.v -ℤ t.a.v) = omega (arith, ints, c.requires.a, c.requires.b) in
-    let g3 : FitsSigned w64 (t.c.u -ℤ t.a.u) = omega (arith, ints, c.requires.a, c.requires.c) in
-    let g4 : FitsSigned w64 (t.c.v -ℤ t.a.v) = omega (arith, ints, c.requires.a, c.requires.c) in
-    let h1 : FitsSigned w64 c.product-across.result = omega (arith, ints, c.product-across.ensures.size) in
-    let h2 : FitsSigned w64 c.product-along.result = omega (arith, ints, c.product-along.ensures.size) in
-    let h3 : FitsSigned w64 (c.product-across.result -ℤ c.product-along.result) =
+    let a_u_fits : FitsSigned w64 t.a.u = omega (arith, ints, c.requires.a) in
+    let a_v_fits : FitsSigned w64 t.a.v = omega (arith, ints, c.requires.a) in
+    let b_u_fits : FitsSigned w64 t.b.u = omega (arith, ints, c.requires.b) in
+    let b_v_fits : FitsSigned w64 t.b.v = omega (arith, ints, c.requires.b) in
+    let c_u_fits : FitsSigned w64 t.c.u = omega (arith, ints, c.requires.c) in
+    let c_v_fits : FitsSigned w64 t.c.v = omega (arith, ints, c.requires.c) in
+    let a_to_b_u_fits : FitsSigned w64 (t.b.u -ℤ t.a.u) = omega (arith, ints, c.requires.a, c.requires.b) in
+    let a_to_b_v_fits : FitsSigned w64 (t.b.v -ℤ t.a.v) = omega (arith, ints, c.requires.a, c.requires.b) in
+    let a_to_c_u_fits : FitsSigned w64 (t.c.u -ℤ t.a.u) = omega (arith, ints, c.requires.a, c.requires.c) in
+    let a_to_c_v_fits : FitsSigned w64 (t.c.v -ℤ t.a.v) = omega (arith, ints, c.requires.a, c.requires.c) in
+    let across_fits : FitsSigned w64 c.product-across.result = omega (arith, ints, c.product-across.ensures.size) in
+    let along_fits : FitsSigned w64 c.product-along.result = omega (arith, ints, c.product-along.ensures.size) in
+    let difference_fits : FitsSigned w64 (c.product-across.result -ℤ c.product-along.result) =
     omega (arith, ints, c.product-across.ensures.size, c.product-along.ensures.size) in
-    let e1 = simp to_z-of_z at c.product-across.ensures.value in
-    let e2 = simp to_z-of_z at c.product-along.ensures.value in
-    simp to_z-of_z (cc (e1, e2))
+    let across_value = simp to_z-of_z at c.product-across.ensures.value in
+    let along_value = simp to_z-of_z at c.product-along.ensures.value in
+    simp to_z-of_z (cc (across_value, along_value))
 
 pub returns-clause-size : goal.returns-clause-size
 returns-clause-size c =
-    let h1 : FitsSigned w64 c.product-across.result = omega (arith, ints, c.product-across.ensures.size) in
-    let h2 : FitsSigned w64 c.product-along.result = omega (arith, ints, c.product-along.ensures.size) in
-    let h3 : FitsSigned w64 (c.product-across.result -ℤ c.product-along.result) =
+    let across_fits : FitsSigned w64 c.product-across.result = omega (arith, ints, c.product-across.ensures.size) in
+    let along_fits : FitsSigned w64 c.product-along.result = omega (arith, ints, c.product-along.ensures.size) in
+    let difference_fits : FitsSigned w64 (c.product-across.result -ℤ c.product-along.result) =
     omega (arith, ints, c.product-across.ensures.size, c.product-along.ensures.size) in
     simp to_z-of_z (omega (arith, ints, c.product-across.ensures.size, c.product-along.ensures.size))

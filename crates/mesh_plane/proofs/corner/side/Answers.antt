@@ -25,20 +25,20 @@ overflow_sub-across c = omega (arith, ints, c.product-across.ensures.size, c.pro
 pub returns-clause-value : goal.returns-clause-value
 returns-clause-value c =
     let a = c.args.a.now in let b = c.args.b.now in
-    let r1 = c.ranges.scale in let r2 = c.ranges.u in let r3 = c.ranges.v in
-    let f1 : FitsSigned w64 a.u = omega (arith, ints, c.requires.a) in
-    let f2 : FitsSigned w64 a.v = omega (arith, ints, c.requires.a) in
-    let f3 : FitsSigned w64 b.u = omega (arith, ints, c.requires.b) in
-    let f4 : FitsSigned w64 b.v = omega (arith, ints, c.requires.b) in
-    let g1 : FitsSigned w64 (b.u -ℤ a.u) = omega (arith, ints, c.requires.a, c.requires.b) in
-    let g2 : FitsSigned w64 (b.v -ℤ a.v) = omega (arith, ints, c.requires.a, c.requires.b) in
-    let s1 : FitsSigned w64 c.scaled.result =
+    let scale_range = c.ranges.scale in let u_range = c.ranges.u in let v_range = c.ranges.v in
+    let a_u_fits : FitsSigned w64 a.u = omega (arith, ints, c.requires.a) in
+    let a_v_fits : FitsSigned w64 a.v = omega (arith, ints, c.requires.a) in
+    let b_u_fits : FitsSigned w64 b.u = omega (arith, ints, c.requires.b) in
+    let b_v_fits : FitsSigned w64 b.v = omega (arith, ints, c.requires.b) in
+    let a_to_b_u_fits : FitsSigned w64 (b.u -ℤ a.u) = omega (arith, ints, c.requires.a, c.requires.b) in
+    let a_to_b_v_fits : FitsSigned w64 (b.v -ℤ a.v) = omega (arith, ints, c.requires.a, c.requires.b) in
+    let scaled_v_fits : FitsSigned w64 c.scaled.result =
     omega (arith, ints, c.requires.scale, c.scaled.ensures.low, c.scaled.ensures.high) in
-    let s2 : FitsSigned w64 c.scaled-2.result =
+    let scaled_u_fits : FitsSigned w64 c.scaled-2.result =
     omega (arith, ints, c.requires.scale, c.scaled-2.ensures.low, c.scaled-2.ensures.high) in
-    let d1 : FitsSigned w64 (c.args.v -ℤ c.scaled.result) =
+    let a_to_point_v_fits : FitsSigned w64 (c.args.v -ℤ c.scaled.result) =
     omega (arith, ints, c.requires.scale, c.requires.point, c.scaled.ensures.low, c.scaled.ensures.high) in
-    let d2 : FitsSigned w64 (c.args.u -ℤ c.scaled-2.result) =
+    let a_to_point_u_fits : FitsSigned w64 (c.args.u -ℤ c.scaled-2.result) =
     omega (
       arith,
       ints,
@@ -47,26 +47,27 @@ returns-clause-value c =
       c.scaled-2.ensures.low,
       c.scaled-2.ensures.high,
     ) in
-    let h1 : FitsSigned w64 c.product-across.result = omega (arith, ints, c.product-across.ensures.size) in
-    let h2 : FitsSigned w64 c.product-along.result = omega (arith, ints, c.product-along.ensures.size) in
-    let h3 : FitsSigned w64 (c.product-across.result -ℤ c.product-along.result) =
+    let across_fits : FitsSigned w64 c.product-across.result = omega (arith, ints, c.product-across.ensures.size) in
+    let along_fits : FitsSigned w64 c.product-along.result = omega (arith, ints, c.product-along.ensures.size) in
+    let difference_fits : FitsSigned w64 (c.product-across.result -ℤ c.product-along.result) =
     omega (arith, ints, c.product-across.ensures.size, c.product-along.ensures.size) in
-    let v1 = simp to_z-of_z at c.scaled.ensures.value in
-    let v2 = simp to_z-of_z at c.scaled-2.ensures.value in
-    let e1 = simp to_z-of_z at c.product-across.ensures.value in
-    let e2 = simp to_z-of_z at c.product-along.ensures.value in
-    let e3 = simp to_z-of_z at c.from.ensures in
-    let h4 : FitsSigned w128 c.from.result =
-    omega (arith, ints, e3, c.product-across.ensures.size, c.product-along.ensures.size) in
-    simp to_z-of_z (cc (v1, v2, e1, e2, e3))
+    let scaled_v_value = simp to_z-of_z at c.scaled.ensures.value in
+    let scaled_u_value = simp to_z-of_z at c.scaled-2.ensures.value in
+    let across_value = simp to_z-of_z at c.product-across.ensures.value in
+    let along_value = simp to_z-of_z at c.product-along.ensures.value in
+    let difference_widened = simp to_z-of_z at c.from.ensures in
+    let wide_difference_fits : FitsSigned w128 c.from.result =
+    omega (arith, ints, difference_widened, c.product-across.ensures.size, c.product-along.ensures.size) in
+    simp to_z-of_z (cc (scaled_v_value, scaled_u_value, across_value, along_value, difference_widened))
 
 pub returns-clause-size : goal.returns-clause-size
 returns-clause-size c =
-    let h1 : FitsSigned w64 c.product-across.result = omega (arith, ints, c.product-across.ensures.size) in
-    let h2 : FitsSigned w64 c.product-along.result = omega (arith, ints, c.product-along.ensures.size) in
-    let h3 : FitsSigned w64 (c.product-across.result -ℤ c.product-along.result) =
+    let across_fits : FitsSigned w64 c.product-across.result = omega (arith, ints, c.product-across.ensures.size) in
+    let along_fits : FitsSigned w64 c.product-along.result = omega (arith, ints, c.product-along.ensures.size) in
+    let difference_fits : FitsSigned w64 (c.product-across.result -ℤ c.product-along.result) =
     omega (arith, ints, c.product-across.ensures.size, c.product-along.ensures.size) in
-    let e3 = simp to_z-of_z at c.from.ensures in
-    let h4 : FitsSigned w128 c.from.result =
-    omega (arith, ints, e3, c.product-across.ensures.size, c.product-along.ensures.size) in
-    simp to_z-of_z (omega (arith, ints, e3, c.product-across.ensures.size, c.product-along.ensures.size))
+    let difference_widened = simp to_z-of_z at c.from.ensures in
+    let wide_difference_fits : FitsSigned w128 c.from.result =
+    omega (arith, ints, difference_widened, c.product-across.ensures.size, c.product-along.ensures.size) in
+    simp to_z-of_z
+    (omega (arith, ints, difference_widened, c.product-across.ensures.size, c.product-along.ensures.size))

@@ -9,33 +9,36 @@ use Rattle.mesh_plane.proofs.gap.height_gap.Goals as goal
 
 pub overflow_sub-difference : goal.overflow_sub-difference
 overflow_sub-difference c =
-    let f1 : FitsSigned w128 c.lift.result = omega (arith, ints, c.lift.ensures.size) in
-    let f2 : FitsSigned w128 c.weighted.result = omega (arith, ints, c.weighted.ensures.size) in
+    let lift_fits : FitsSigned w128 c.lift.result = omega (arith, ints, c.lift.ensures.size) in
+    let weighted_fits : FitsSigned w128 c.weighted.result = omega (arith, ints, c.weighted.ensures.size) in
     simp to_z-of_z (omega (arith, ints, c.lift.ensures.size, c.weighted.ensures.size))
 
 pub abs-requires : goal.abs-requires
 abs-requires c =
-    let f1 : FitsSigned w128 c.lift.result = omega (arith, ints, c.lift.ensures.size) in
-    let f2 : FitsSigned w128 c.weighted.result = omega (arith, ints, c.weighted.ensures.size) in
-    let f3 : FitsSigned w128 (c.lift.result -ℤ c.weighted.result) =
+    let lift_fits : FitsSigned w128 c.lift.result = omega (arith, ints, c.lift.ensures.size) in
+    let weighted_fits : FitsSigned w128 c.weighted.result = omega (arith, ints, c.weighted.ensures.size) in
+    let difference_fits : FitsSigned w128 (c.lift.result -ℤ c.weighted.result) =
     omega (arith, ints, c.lift.ensures.size, c.weighted.ensures.size) in
     simp to_z-of_z (omega (arith, ints, c.lift.ensures.size, c.weighted.ensures.size))
 
 pub returns-clause-over : goal.returns-clause-over
 returns-clause-over c =
-    let r1 = c.ranges.scale in let r2 = c.ranges.u in let r3 = c.ranges.v in let r4 = c.ranges.metres in
-    let f0 : FitsSigned w128 c.area_at-under.result = omega (arith, ints, c.area_at-under.ensures.size) in
-    let f1 : FitsSigned w128 c.lift.result = omega (arith, ints, c.lift.ensures.size) in
-    let f2 : FitsSigned w128 c.weighted.result = omega (arith, ints, c.weighted.ensures.size) in
-    let f3 : FitsSigned w128 (c.lift.result -ℤ c.weighted.result) =
+    let scale_range = c.ranges.scale in
+    let u_range = c.ranges.u in
+    let v_range = c.ranges.v in
+    let metres_range = c.ranges.metres in
+    let area_fits : FitsSigned w128 c.area_at-under.result = omega (arith, ints, c.area_at-under.ensures.size) in
+    let lift_fits : FitsSigned w128 c.lift.result = omega (arith, ints, c.lift.ensures.size) in
+    let weighted_fits : FitsSigned w128 c.weighted.result = omega (arith, ints, c.weighted.ensures.size) in
+    let difference_fits : FitsSigned w128 (c.lift.result -ℤ c.weighted.result) =
     omega (arith, ints, c.lift.ensures.size, c.weighted.ensures.size) in
-    let e0 = simp to_z-of_z at c.area_at-under.ensures.value in
-    let e1 = simp to_z-of_z at c.lift.ensures.value in
-    let e2 = simp to_z-of_z at c.weighted.ensures.value in
-    let e3 = simp to_z-of_z at c.abs.ensures.value in
-    let f4 : FitsSigned w128 c.abs.result =
-    omega (arith, ints, e3, c.lift.ensures.size, c.weighted.ensures.size) in
-    simp to_z-of_z (cc (e0, e1, e2, e3))
+    let area_value = simp to_z-of_z at c.area_at-under.ensures.value in
+    let lift_value = simp to_z-of_z at c.lift.ensures.value in
+    let weighted_value = simp to_z-of_z at c.weighted.ensures.value in
+    let distance_value = simp to_z-of_z at c.abs.ensures.value in
+    let distance_fits : FitsSigned w128 c.abs.result =
+    omega (arith, ints, distance_value, c.lift.ensures.size, c.weighted.ensures.size) in
+    simp to_z-of_z (cc (area_value, lift_value, weighted_value, distance_value))
 
 pub returns-clause-under : goal.returns-clause-under
 returns-clause-under c =

@@ -10,10 +10,10 @@ overflow_add-result c = omega (arith, ints, c.weighted-a.ensures.size, c.weighte
 
 pub overflow_add-result-2 : goal.overflow_add-result-2
 overflow_add-result-2 c =
-    let f1 : FitsSigned w128 c.weighted-a.result = omega (arith, ints, c.weighted-a.ensures.size) in
-    let f2 : FitsSigned w128 c.weighted-b.result = omega (arith, ints, c.weighted-b.ensures.size) in
-    let f3 : FitsSigned w128 c.weighted-c.result = omega (arith, ints, c.weighted-c.ensures.size) in
-    let f4 : FitsSigned w128 (c.weighted-a.result +ℤ c.weighted-b.result) =
+    let weighted_a_fits : FitsSigned w128 c.weighted-a.result = omega (arith, ints, c.weighted-a.ensures.size) in
+    let weighted_b_fits : FitsSigned w128 c.weighted-b.result = omega (arith, ints, c.weighted-b.ensures.size) in
+    let weighted_c_fits : FitsSigned w128 c.weighted-c.result = omega (arith, ints, c.weighted-c.ensures.size) in
+    let first_two_fit : FitsSigned w128 (c.weighted-a.result +ℤ c.weighted-b.result) =
     omega (arith, ints, c.weighted-a.ensures.size, c.weighted-b.ensures.size) in
     simp to_z-of_z
     (omega (arith, ints, c.weighted-a.ensures.size, c.weighted-b.ensures.size, c.weighted-c.ensures.size))
@@ -21,35 +21,37 @@ overflow_add-result-2 c =
 pub returns-clause-value : goal.returns-clause-value
 returns-clause-value c =
     let t = c.args.tri.now in
-    let r1 = c.ranges.scale in let r2 = c.ranges.u in let r3 = c.ranges.v in
-    let h1 : FitsSigned w32 t.a.h = search rules in let h2 : FitsSigned w32 t.b.h = search rules in
-    let h3 : FitsSigned w32 t.c.h = search rules in
-    let s1 : FitsSigned w128 c.side.result = omega (arith, ints, c.side.ensures.size) in
-    let s2 : FitsSigned w128 c.side-2.result = omega (arith, ints, c.side-2.ensures.size) in
-    let s3 : FitsSigned w128 c.side-3.result = omega (arith, ints, c.side-3.ensures.size) in
-    let f1 : FitsSigned w128 c.weighted-a.result = omega (arith, ints, c.weighted-a.ensures.size) in
-    let f2 : FitsSigned w128 c.weighted-b.result = omega (arith, ints, c.weighted-b.ensures.size) in
-    let f3 : FitsSigned w128 c.weighted-c.result = omega (arith, ints, c.weighted-c.ensures.size) in
-    let f4 : FitsSigned w128 (c.weighted-a.result +ℤ c.weighted-b.result) =
+    let scale_range = c.ranges.scale in let u_range = c.ranges.u in let v_range = c.ranges.v in
+    let height_a_fits : FitsSigned w32 t.a.h = search rules in
+    let height_b_fits : FitsSigned w32 t.b.h = search rules in
+    let height_c_fits : FitsSigned w32 t.c.h = search rules in
+    let side_bc_fits : FitsSigned w128 c.side.result = omega (arith, ints, c.side.ensures.size) in
+    let side_ca_fits : FitsSigned w128 c.side-2.result = omega (arith, ints, c.side-2.ensures.size) in
+    let side_ab_fits : FitsSigned w128 c.side-3.result = omega (arith, ints, c.side-3.ensures.size) in
+    let weighted_a_fits : FitsSigned w128 c.weighted-a.result = omega (arith, ints, c.weighted-a.ensures.size) in
+    let weighted_b_fits : FitsSigned w128 c.weighted-b.result = omega (arith, ints, c.weighted-b.ensures.size) in
+    let weighted_c_fits : FitsSigned w128 c.weighted-c.result = omega (arith, ints, c.weighted-c.ensures.size) in
+    let first_two_fit : FitsSigned w128 (c.weighted-a.result +ℤ c.weighted-b.result) =
     omega (arith, ints, c.weighted-a.ensures.size, c.weighted-b.ensures.size) in
-    let f5 : FitsSigned w128 ((c.weighted-a.result +ℤ c.weighted-b.result) +ℤ c.weighted-c.result) =
+    let all_three_fit : FitsSigned w128 ((c.weighted-a.result +ℤ c.weighted-b.result) +ℤ c.weighted-c.result) =
     omega (arith, ints, c.weighted-a.ensures.size, c.weighted-b.ensures.size, c.weighted-c.ensures.size) in
-    let v1 = simp to_z-of_z at c.side.ensures.value in
-    let v2 = simp to_z-of_z at c.side-2.ensures.value in
-    let v3 = simp to_z-of_z at c.side-3.ensures.value in
-    let e1 = simp to_z-of_z at c.weighted-a.ensures.value in
-    let e2 = simp to_z-of_z at c.weighted-b.ensures.value in
-    let e3 = simp to_z-of_z at c.weighted-c.ensures.value in
-    simp to_z-of_z (cc (v1, v2, v3, e1, e2, e3))
+    let side_bc_value = simp to_z-of_z at c.side.ensures.value in
+    let side_ca_value = simp to_z-of_z at c.side-2.ensures.value in
+    let side_ab_value = simp to_z-of_z at c.side-3.ensures.value in
+    let weighted_a_value = simp to_z-of_z at c.weighted-a.ensures.value in
+    let weighted_b_value = simp to_z-of_z at c.weighted-b.ensures.value in
+    let weighted_c_value = simp to_z-of_z at c.weighted-c.ensures.value in
+    simp to_z-of_z
+    (cc (side_bc_value, side_ca_value, side_ab_value, weighted_a_value, weighted_b_value, weighted_c_value))
 
 pub returns-clause-size : goal.returns-clause-size
 returns-clause-size c =
-    let f1 : FitsSigned w128 c.weighted-a.result = omega (arith, ints, c.weighted-a.ensures.size) in
-    let f2 : FitsSigned w128 c.weighted-b.result = omega (arith, ints, c.weighted-b.ensures.size) in
-    let f3 : FitsSigned w128 c.weighted-c.result = omega (arith, ints, c.weighted-c.ensures.size) in
-    let f4 : FitsSigned w128 (c.weighted-a.result +ℤ c.weighted-b.result) =
+    let weighted_a_fits : FitsSigned w128 c.weighted-a.result = omega (arith, ints, c.weighted-a.ensures.size) in
+    let weighted_b_fits : FitsSigned w128 c.weighted-b.result = omega (arith, ints, c.weighted-b.ensures.size) in
+    let weighted_c_fits : FitsSigned w128 c.weighted-c.result = omega (arith, ints, c.weighted-c.ensures.size) in
+    let first_two_fit : FitsSigned w128 (c.weighted-a.result +ℤ c.weighted-b.result) =
     omega (arith, ints, c.weighted-a.ensures.size, c.weighted-b.ensures.size) in
-    let f5 : FitsSigned w128 ((c.weighted-a.result +ℤ c.weighted-b.result) +ℤ c.weighted-c.result) =
+    let all_three_fit : FitsSigned w128 ((c.weighted-a.result +ℤ c.weighted-b.result) +ℤ c.weighted-c.result) =
     omega (arith, ints, c.weighted-a.ensures.size, c.weighted-b.ensures.size, c.weighted-c.ensures.size) in
     simp to_z-of_z
     (omega (arith, ints, c.weighted-a.ensures.size, c.weighted-b.ensures.size, c.weighted-c.ensures.size))
