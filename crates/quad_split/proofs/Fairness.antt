@@ -56,35 +56,43 @@ where_broken p k x y e =
 untouched : (f : ℕ → ℕ → Bool) (x y : ℕ) → touching f x y ≡ false → (k : ℕ) (p : ℕ → ℕ → ℕ → Bool)
     → ((u v : ℕ) → p k u v ≡ f u v) → AreHalvesWhole p k x y
 untouched f x y t k p e =
-    let t1 = or_right (f (2 * x) (2 * y)) _ t in
-    let t2 = or_right (f (2 * x + 1) (2 * y)) _ t1 in
-    let t3 = or_right (f (2 * x) (2 * y + 1)) _ t2 in
-    let t4 = or_right (f (2 * x + 1) (2 * y + 1)) _ t3 in
-    let t5 = or_right (f (2 * x - 1) (2 * y)) _ t4 in
-    let t6 = or_right (f (2 * x - 1) (2 * y + 1)) _ t5 in
-    let t7 = or_right (f (2 * x + 2) (2 * y)) _ t6 in
-    let t8 = or_right (f (2 * x + 2) (2 * y + 1)) _ t7 in
-    let t9 = or_right (f (2 * x) (2 * y - 1)) _ t8 in
-    let t10 = or_right (f (2 * x + 1) (2 * y - 1)) _ t9 in
-    let sw = e _ _ ∙ or_left (f (2 * x) (2 * y)) _ t in
-    let se = e _ _ ∙ or_left (f (2 * x + 1) (2 * y)) _ t1 in
-    let nw = e _ _ ∙ or_left (f (2 * x) (2 * y + 1)) _ t2 in
-    let ne = e _ _ ∙ or_left (f (2 * x + 1) (2 * y + 1)) _ t3 in
-    let w0 = e _ _ ∙ or_left (f (2 * x - 1) (2 * y)) _ t4 in
-    let w1 = e _ _ ∙ or_left (f (2 * x - 1) (2 * y + 1)) _ t5 in
-    let e0 = e _ _ ∙ or_left (f (2 * x + 2) (2 * y)) _ t6 in
-    let e1 = e _ _ ∙ or_left (f (2 * x + 2) (2 * y + 1)) _ t7 in
-    let s0 = e _ _ ∙ or_left (f (2 * x) (2 * y - 1)) _ t8 in
-    let s1 = e _ _ ∙ or_left (f (2 * x + 1) (2 * y - 1)) _ t9 in
-    let n0 = e _ _ ∙ or_left (f (2 * x) (2 * y + 2)) (f (2 * x + 1) (2 * y + 2)) t10 in
-    let n1 = e _ _ ∙ or_right (f (2 * x) (2 * y + 2)) (f (2 * x + 1) (2 * y + 2)) t10 in
-    let x2 : 2 * (x + 1) ≡ 2 * x + 2 = omega arith in let x1 : 2 * x + 2 - 1 ≡ 2 * x + 1 = omega arith in
-    let y2 : 2 * (y + 1) ≡ 2 * y + 2 = omega arith in let y1 : 2 * y + 2 - 1 ≡ 2 * y + 1 = omega arith in
+    let past_south_west = or_right (f (2 * x) (2 * y)) _ t in
+    let past_south_east = or_right (f (2 * x + 1) (2 * y)) _ past_south_west in
+    let past_north_west = or_right (f (2 * x) (2 * y + 1)) _ past_south_east in
+    let past_north_east = or_right (f (2 * x + 1) (2 * y + 1)) _ past_north_west in
+    let past_west_low = or_right (f (2 * x - 1) (2 * y)) _ past_north_east in
+    let past_west_high = or_right (f (2 * x - 1) (2 * y + 1)) _ past_west_low in
+    let past_east_low = or_right (f (2 * x + 2) (2 * y)) _ past_west_high in
+    let past_east_high = or_right (f (2 * x + 2) (2 * y + 1)) _ past_east_low in
+    let past_south_left = or_right (f (2 * x) (2 * y - 1)) _ past_east_high in
+    let past_south_right = or_right (f (2 * x + 1) (2 * y - 1)) _ past_south_left in
+    let south_west = e _ _ ∙ or_left (f (2 * x) (2 * y)) _ t in
+    let south_east = e _ _ ∙ or_left (f (2 * x + 1) (2 * y)) _ past_south_west in
+    let north_west = e _ _ ∙ or_left (f (2 * x) (2 * y + 1)) _ past_south_east in
+    let north_east = e _ _ ∙ or_left (f (2 * x + 1) (2 * y + 1)) _ past_north_west in
+    let west_low = e _ _ ∙ or_left (f (2 * x - 1) (2 * y)) _ past_north_east in
+    let west_high = e _ _ ∙ or_left (f (2 * x - 1) (2 * y + 1)) _ past_west_low in
+    let east_low = e _ _ ∙ or_left (f (2 * x + 2) (2 * y)) _ past_west_high in
+    let east_high = e _ _ ∙ or_left (f (2 * x + 2) (2 * y + 1)) _ past_east_low in
+    let south_left = e _ _ ∙ or_left (f (2 * x) (2 * y - 1)) _ past_east_high in
+    let south_right = e _ _ ∙ or_left (f (2 * x + 1) (2 * y - 1)) _ past_south_left in
+    let north_left = e _ _ ∙ or_left (f (2 * x) (2 * y + 2)) (f (2 * x + 1) (2 * y + 2)) past_south_right in
+    let north_right = e _ _ ∙ or_right (f (2 * x) (2 * y + 2)) (f (2 * x + 1) (2 * y + 2)) past_south_right in
+    let east_column : 2 * (x + 1) ≡ 2 * x + 2 = omega arith in
+    let column_before_east : 2 * x + 2 - 1 ≡ 2 * x + 1 = omega arith in
+    let north_row : 2 * (y + 1) ≡ 2 * y + 2 = omega arith in
+    let row_before_north : 2 * y + 2 - 1 ≡ 2 * y + 1 = omega arith in
     record {
-      south = (rw (sw, s0), rw (se, s1));
-      north = (rw (y2, y1, n0, nw), rw (y2, y1, n1, ne));
-      west = (rw (sw, w0), rw (nw, w1));
-      east = (rw (x2, x1, e0, se), rw (x2, x1, e1, ne));
+      south = (rw (south_west, south_left), rw (south_east, south_right));
+      north = (
+        rw (north_row, row_before_north, north_left, north_west),
+        rw (north_row, row_before_north, north_right, north_east),
+      );
+      west = (rw (south_west, west_low), rw (north_west, west_high));
+      east = (
+        rw (east_column, column_before_east, east_low, south_east),
+        rw (east_column, column_before_east, east_high, north_east),
+      );
     }
 
 pub halves_whole : (grid : List ℤ) (tol k x y : ℕ) → is_node (suc k) x y ≡ true
