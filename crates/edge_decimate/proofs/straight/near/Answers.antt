@@ -19,10 +19,10 @@ pub returns-then-gap-limit : goal.returns-then-gap-limit
 unfolding is_near
 returns-then-gap-limit c =
     let g = c.gap_at-gap.result in let l = c.product-limit.result in
-    let f1 : FitsSigned w64 g = omega (arith, ints) in
-    let f2 : FitsSigned w64 l = omega (arith, ints) in
-    let f3 : FitsSigned w64 (pos 0 -ℤ g) = omega (arith, ints) in
-    let f4 : FitsSigned w64 c.length_from.result = omega (arith, ints) in
+    let gap_fits : FitsSigned w64 g = omega (arith, ints) in
+    let limit_fits : FitsSigned w64 l = omega (arith, ints) in
+    let negated_gap_fits : FitsSigned w64 (pos 0 -ℤ g) = omega (arith, ints) in
+    let length_fits : FitsSigned w64 c.length_from.result = omega (arith, ints) in
     let t : to_z w64 c.args.tol ≡ pos c.args.tol = omega (arith, ints) in
     let k = simp to_z-of_z at c.product-limit.ensures.value in
     let h : g ≤ℤ l = omega (arith, ints) in
@@ -33,9 +33,9 @@ pub returns-else-gap-limit : goal.returns-else-gap-limit
 unfolding is_near
 returns-else-gap-limit c =
     let g = c.gap_at-gap.result in let l = c.product-limit.result in
-    let f1 : FitsSigned w64 g = omega (arith, ints) in
-    let f2 : FitsSigned w64 l = omega (arith, ints) in
-    let f4 : FitsSigned w64 c.length_from.result = omega (arith, ints) in
+    let gap_fits : FitsSigned w64 g = omega (arith, ints) in
+    let limit_fits : FitsSigned w64 l = omega (arith, ints) in
+    let length_fits : FitsSigned w64 c.length_from.result = omega (arith, ints) in
     let t : to_z w64 c.args.tol ≡ pos c.args.tol = omega (arith, ints) in
     let k = simp to_z-of_z at c.product-limit.ensures.value in
     let h : l <ℤ g = omega (arith, ints) in
