@@ -13,7 +13,7 @@ returns c =
     let second : FitsSigned w128 c.min-2.result = search rules in
     let both : FitsSigned w128 c.min-3.result = search rules in
     let over : FitsSigned w128 c.floor_div.result = search rules in
-    let e1 = simp to_z-of_z at c.min.ensures.value in
-    let e2 = simp to_z-of_z at c.min-2.ensures.value in
-    let e3 = simp to_z-of_z at c.min-3.ensures.value in
-    simp to_z-of_z (rw (e3, e1, e2) at (simp to_z-of_z at c.floor_div.ensures.exact))
+    let first_least = simp to_z-of_z at c.min.ensures.value in
+    let second_least = simp to_z-of_z at c.min-2.ensures.value in
+    let least_of_both = simp to_z-of_z at c.min-3.ensures.value in
+    simp to_z-of_z (rw (least_of_both, first_least, second_least) at (simp to_z-of_z at c.floor_div.ensures.exact))
