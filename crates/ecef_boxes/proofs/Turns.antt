@@ -71,24 +71,24 @@ first_term first square from p h g = next_up_to 47 first square from 0 p h g
 terms_up_to : (first square : Interval) (from : ℕ) → 0 < from → IsUpTo 48 first → IsUpTo 48 square
     → Terms first square from
 terms_up_to first square from p h g =
-    let t1 = first_term first square from p h g in
-    let t2 = later_up_to 1 44 47 first square from (omega arith) refl p t1 g in
-    let t3 = later_up_to 2 41 44 first square from (omega arith) refl p t2 g in
-    let t4 = later_up_to 3 38 41 first square from (omega arith) refl p t3 g in
-    let t5 = later_up_to 4 35 38 first square from (omega arith) refl p t4 g in
-    let t6 = later_up_to 5 32 35 first square from (omega arith) refl p t5 g in
-    let t7 = later_up_to 6 29 32 first square from (omega arith) refl p t6 g in
-    let t8 = later_up_to 7 26 29 first square from (omega arith) refl p t7 g in
+    let halved_bound = first_term first square from p h g in
+    let second_bound = later_up_to 1 44 47 first square from (omega arith) refl p halved_bound g in
+    let third_bound = later_up_to 2 41 44 first square from (omega arith) refl p second_bound g in
+    let fourth_bound = later_up_to 3 38 41 first square from (omega arith) refl p third_bound g in
+    let fifth_bound = later_up_to 4 35 38 first square from (omega arith) refl p fourth_bound g in
+    let sixth_bound = later_up_to 5 32 35 first square from (omega arith) refl p fifth_bound g in
+    let seventh_bound = later_up_to 6 29 32 first square from (omega arith) refl p sixth_bound g in
+    let eighth_bound = later_up_to 7 26 29 first square from (omega arith) refl p seventh_bound g in
     record {
       whole = h;
-      halved = t1;
-      second = t2;
-      third = t3;
-      fourth = t4;
-      fifth = t5;
-      sixth = t6;
-      seventh = t7;
-      eighth = t8;
+      halved = halved_bound;
+      second = second_bound;
+      third = third_bound;
+      fourth = fourth_bound;
+      fifth = fifth_bound;
+      sixth = sixth_bound;
+      seventh = seventh_bound;
+      eighth = eighth_bound;
     }
 
 -- only terms that are subtracted bring the sum of eight down, and only those that are added bring that of nine up
