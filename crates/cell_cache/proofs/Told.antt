@@ -28,7 +28,8 @@ use Rattle.cell_cache.specs.declared.slot.Slot.{Slot}
 use Rattle.cell_cache.specs.Cached.{shapes_of_rows, file_of, holds_row, entry_of, is_same, is_fresh, cells_told, cells_through, IsHeldAt, AreHeld}
 use Rattle.cell_cache.specs.CachedLaws.{both, told_at, keys_told, told_over}
 use Rattle.cell_cache.specs.Fetched.{IsFetched}
-use Rattle.cell_cache.specs.Held.{Reaches, ReachesRound}
+use Rattle.cell_mosaic.specs.declared.quad.Quad.{Quad}
+use Rattle.cell_cache.specs.Held.{Reaches, ReachesRound, IsHeldQuad}
 use Rattle.cell_cache.specs.Slot.{slot_at}
 
 -- ---- slots tell keys apart
@@ -147,6 +148,15 @@ pub round_told : (rows : List Summary) (held : List (Slot × List ℕ)) (files :
     → Contains held (slot_at key, bytes) → (told : Cells) → cells_through rows held files ≡ Some told → quad_round (post_in bytes) col row on_column on_row ≡ quad_round (post_at told key) col row on_column on_row
 round_told rows held files key col row on_column on_row bytes all known there told is = λ i.
     quad_round (λ c r. held_told rows held files key c r bytes all known there told is i) col row on_column on_row
+
+pub quad_told : (rows : List Summary) (held : List (Slot × List ℕ)) (key : CellKey) (col row : ℕ) (on_column on_row : Bool)
+    (found : Option Quad) → AreHeld rows held → contains (shapes_of_rows rows) key ≡ true
+    → IfSome found (IsHeldQuad held key col row on_column on_row)
+    → IfSome found (λ quad. (files : Option Files) (told : Cells) → cells_through rows held files ≡ Some told
+    → quad ≡ quad_round (post_at told key) col row on_column on_row)
+quad_told rows held key col row on_column on_row None all known is_held = tt
+quad_told rows held key col row on_column on_row (Some quad) all known is_held = λ files told is.
+    is_held.value ∙ round_told rows held files key col row on_column on_row is_held.bytes all known is_held.there told is
 
 -- ---- a cell that was fetched
 

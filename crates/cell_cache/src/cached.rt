@@ -197,10 +197,22 @@ impl PostSource for CachedCells {
         on_column: bool,
         on_row: bool,
     ) -> Result<Quad, SourceFault> {
-        if let Some(quad) = last_quad(&self.cells, key, col, row, on_column, on_row) {
+        if let Some(quad) = self.round_at_hand(key, col, row, on_column, on_row) {
             return Ok(quad);
         }
         // The first post fetches the cell, and the others find it as the last.
         self.posts_one_by_one(store, key, col, row, on_column, on_row)
+    }
+
+    // The cell at hand is the last.
+    fn round_at_hand(
+        &self,
+        key: CellKey,
+        col: u16,
+        row: u16,
+        on_column: bool,
+        on_row: bool,
+    ) -> Option<Quad> {
+        last_quad(&self.cells, key, col, row, on_column, on_row)
     }
 }

@@ -1,5 +1,5 @@
 // A source of posts.
-ghost use Rattle.std.specs.Prelude.{◌≡◌, ◌+◌, ◌<◌, Bool, Option, Some, IfOk, IsFalse};
+ghost use Rattle.std.specs.Prelude.{◌≡◌, ◌+◌, ◌<◌, Bool, Option, Some, IfOk, IfSome, IsFalse};
 ghost use Rattle.terrain_base.specs.Step.{Files};
 ghost use Rattle.cell_mosaic.specs.Cells.{Cells, Shapes, AreCells, HasPost, IsPost, post_at, finest_of, coarser_of};
 ghost use Rattle.cell_mosaic.specs.Source.{GivesTold, Leaves, AlikeCells};
@@ -122,6 +122,27 @@ pub trait PostSource {
             self.old self.new store.old store.new result }
     {
         self.posts_one_by_one(store, key, col, row, on_column, on_row)
+    }
+
+    /// The same posts where the source has the key's cell at hand. Where it would have to look the cell up, or to fetch
+    /// it, it may answer `None`, which says nothing of the cell: `posts_round` has the posts all the same.
+    fn round_at_hand(
+        &self,
+        key: CellKey,
+        col: u16,
+        row: u16,
+        on_column: bool,
+        on_row: bool,
+    ) -> Option<Quad>
+        requires sw { HasPost (shapes self.now) key col row }
+        requires se { IsFalse on_column → HasPost (shapes self.now) key (col + 1) row }
+        requires nw { IsFalse on_row → HasPost (shapes self.now) key col (row + 1) }
+        requires small { (col < 3601) × (row < 3601) }
+        ensures value { IfSome result (λ quad. (files : Option Files) (told : Cells) → cells self.now files ≡ Some told
+            → quad ≡ quad_round (post_at told key) col row on_column on_row) }
+        ensures height { IfSome result ArePosts }
+    {
+        None
     }
 
     /// Told cells are cells of their keys, and these are those of the shapes.

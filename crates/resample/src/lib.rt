@@ -1,6 +1,7 @@
 //! Heights from the cells of any source: at a place, and at the grid points of a tile.
 #![tactic(auto)]
 
+mod at_hand;
 mod block;
 mod grid_lines;
 mod height_rule;

@@ -8,6 +8,7 @@ ghost use Rattle.resample.specs.Height.{height_at, grid_of};
 ghost use Rattle.resample.specs.Line.{IsLine, IsRun, AreGridLines, row_units, parts_of};
 ghost use Rattle.resample.specs.Block.{IsBlock, Fills};
 
+use crate::at_hand::height_at_hand;
 use crate::block::{Block, block_at};
 use crate::grid_lines::{GridLines, Run, column_lines, row_lines, run_at, turn_run};
 use crate::height;
@@ -69,15 +70,11 @@ fn fill_row<P: PostSource, S: Store>(
     let north = lines.rows[j as usize];
     for i in block.columns.first..block.columns.end {
         let place = tile_place(block.tile, i, j);
-        let metres = point(
-            src,
-            store,
-            fill,
-            place,
-            block,
-            &lines.columns[i as usize],
-            &north,
-        )?;
+        let east = &lines.columns[i as usize];
+        let metres = match height_at_hand(src, place, block, east, &north) {
+            Some(metres) => metres,
+            None => point(src, store, fill, place, block, east, &north)?,
+        };
         out.set(i, j, metres);
     }
     Ok(())
