@@ -5,6 +5,7 @@ pub mod Keeping
 pub mod Holders
 pub mod Shorts
 pub mod Sums
+pub mod Thinning
 pub mod Values
 pub mod WholeMaps
 pub mod Ranges

@@ -41,15 +41,22 @@ fn is_post(post: Post) -> bool
     }
 }
 
-/// The value between the posts at fractions of quarters.
-fn value_at(quad: &Quad, east: u8, north: u8) -> Option<Post> {
+/// The value between the posts at fractions of quarters, each so many units long.
+fn value_at(quad: &Quad, east: u8, north: u8, length: u32) -> Option<Post> {
     if !is_post(quad.sw) || !is_post(quad.se) || !is_post(quad.nw) || !is_post(quad.ne) {
         return None;
     }
-    if east > 4 || north > 4 {
+    if east > 4 || north > 4 || length == 0 {
         return None;
     }
-    Some(blend(quad, u128::from(east), 4, u128::from(north), 4))
+    let quarter = u128::from(length);
+    Some(blend(
+        quad,
+        u128::from(east) * quarter,
+        4 * quarter,
+        u128::from(north) * quarter,
+        4 * quarter,
+    ))
 }
 
 #[test]
@@ -73,7 +80,10 @@ fn blends_with_and_without_voids(rt: HostRuntime) {
     ];
     for ([sw, se, nw, ne], east, north, want) in cases {
         let quad = Quad { sw, se, nw, ne };
-        assert_eq!(rt; value_at(&quad, east, north), Some(want));
+        // in 64 bits, in 64 bits by a 32nd of the units, and in 128 bits
+        assert_eq!(rt; value_at(&quad, east, north, 1), Some(want));
+        assert_eq!(rt; value_at(&quad, east, north, 0x400_0000), Some(want));
+        assert_eq!(rt; value_at(&quad, east, north, 0x200_0001), Some(want));
     }
 }
 

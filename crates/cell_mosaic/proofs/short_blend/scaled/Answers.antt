@@ -1,5 +1,5 @@
 use Rattle.std.proofs.Common.{arith, FitsSigned}
-use Rattle.std.specs.Prelude.{◌*ℤ◌, pos}
+use Rattle.std.specs.Prelude.{◌*ℤ◌, ◌^◌, pos}
 use Rattle.std.proofs.lemmas.Int.{ints, to_z-of_z, to_z_pos}
 use mir.Syntax.{w64}
 use Rattle.cell_mosaic.proofs.Sums.{scaled_within}
@@ -26,4 +26,4 @@ returns-clause-small c =
     let metres_fits : FitsSigned w64 c.args.metres =
     omega (arith, ints, c.requires.height.above, c.requires.height.below) in
     let weight_is = to_z_pos w64 c.args.weight (omega (arith, c.requires.weight)) in
-    simp (to_z-of_z, weight_is) (part_short c.args.weight _ c.requires.weight within)
+    simp (to_z-of_z, weight_is) (part_short c.args.weight (2 ^ 48) _ c.requires.weight within)
