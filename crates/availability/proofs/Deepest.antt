@@ -9,7 +9,7 @@ use Rattle.terrain_base.specs.declared.summary.Summary.{Summary}
 use Rattle.terrain_base.specs.declared.tile.TileId.{TileId}
 use Rattle.tms_tree.specs.Touch.{crosses_at, overlaps_of}
 use Rattle.availability.specs.Existence.{reach_of, makes_of, makes_at, is_tile, exists_of, exists_at}
-use Rattle.availability.specs.Layer.{deepest_of, text_of, layer_text_of}
+use Rattle.availability.specs.Layer.{deepest_of, layer_text_from, layer_text_of}
 use Rattle.availability.specs.Runs.{runs_of}
 use Rattle.availability.proofs.Existing.{exists_at_tile}
 use Rattle.availability.proofs.Levels.{made_is_tile}
@@ -143,6 +143,6 @@ same_map f g h (x ∷ xs) = rw (h x, same_map f g h xs) refl
 pub same_text : (cap top : ℕ) (cells others : List Summary) → SameTiles cap top cells others → layer_text_of cap cells ≡ layer_text_of top others
 unfolding layer_text_of
 same_text cap top cells others same =
-    ap (λ levels. text_of levels (deepest_of cap cells))
+    ap (λ levels. layer_text_from levels (deepest_of cap cells))
     (same_map (runs_of cap cells) (runs_of top others) (same_runs cap top cells others same) (range_with_len 0 (deepest_of cap cells + 1)))
-    ∙ ap (λ n. text_of (map (runs_of top others) (range_with_len 0 (n + 1))) n) (same_deepest cap top cells others same)
+    ∙ ap (λ n. layer_text_from (map (runs_of top others) (range_with_len 0 (n + 1))) n) (same_deepest cap top cells others same)

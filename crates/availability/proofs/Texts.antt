@@ -6,7 +6,7 @@ use Rattle.serde_json.specs.View.{items_of}
 use Rattle.serde_json.specs.Written.{compact_text, items_text, members_text, has_float, items_have_float}
 use Rattle.serde_json.proofs.OnLiterals.{serde_json_on_literals}
 use Rattle.availability.specs.declared.row_run.RowRun.{RowRun}
-use Rattle.availability.specs.Layer.{commas, run_text, level_text, later_text, text_of}
+use Rattle.availability.specs.Layer.{commas, run_text, level_text, later_text, layer_text_from}
 use Rattle.availability.specs.LayerData.{run_data, level_data, levels_data, later_members, layer_data}
 
 -- later items, with a comma before each
@@ -53,7 +53,7 @@ later_is : (deepest : ℕ) → members_text true (later_members deepest) ≡ lat
 unfolding serde_json_on_literals
 later_is deepest = rw (decimal_180, decimal_90, decimal_0)
 
-pub layer_is : (levels : List (List RowRun)) (deepest : ℕ) → compact_text (layer_data (levels_data levels) deepest) ≡ text_of levels deepest
+pub layer_is : (levels : List (List RowRun)) (deepest : ℕ) → compact_text (layer_data (levels_data levels) deepest) ≡ layer_text_from levels deepest
 unfolding serde_json_on_literals
 layer_is levels deepest =
     rw (items_are (map level_data levels), levels_are levels, later_is deepest)

@@ -34,11 +34,11 @@ later_text deepest =
     ++ codes ",\"minzoom\":0,\"projection\":\"EPSG:4326\",\"scheme\":\"tms\",\"tilejson\":\"2.1.0\",\"tiles\":[\"{z}/{x}/{y}.terrain\"],\"version\":\"1.0.0\"}")
 
 -- the runs of each level from 0 on, and the deepest level
-abbrev pub text_of : List (List RowRun) → ℕ → List ℕ
-text_of levels deepest = codes "{\"available\":["
+abbrev pub layer_text_from : List (List RowRun) → ℕ → List ℕ
+layer_text_from levels deepest = codes "{\"available\":["
     ++ (commas (map level_text levels) ++ (codes "]" ++ later_text deepest))
 
 -- the layer text of the existing tiles
 unfoldable pub layer_text_of : ℕ → List Summary → List ℕ
-layer_text_of cap cells = text_of (map (runs_of cap cells) (range_with_len 0 (deepest_of cap cells + 1)))
+layer_text_of cap cells = layer_text_from (map (runs_of cap cells) (range_with_len 0 (deepest_of cap cells + 1)))
     (deepest_of cap cells)

@@ -76,16 +76,16 @@ abbrev pub is_spoilt : CachedCells → Bool
 is_spoilt source = source.is_spoilt
 
 -- what is held after it was before, or is what the files hold under its name
-abbrev pub Holds : CachedCells → CachedCells → Option Files → Type 0
-Holds source source' files = (slot : Slot) (bytes : List ℕ) → Contains source'.cells.entries (slot, bytes) → Contains source.cells.entries (slot, bytes) ⊎ IfSome files (λ files. is_fresh files bytes ≡ true)
+abbrev pub CacheHolds : CachedCells → CachedCells → Option Files → Type 0
+CacheHolds source source' files = (slot : Slot) (bytes : List ℕ) → Contains source'.cells.entries (slot, bytes) → Contains source.cells.entries (slot, bytes) ⊎ IfSome files (λ files. is_fresh files bytes ≡ true)
 
-stays : (source source' : CachedCells) (files : Option Files) → source'.summaries.items ≡ source.summaries.items → Holds source source' files
+stays : (source source' : CachedCells) (files : Option Files) → source'.summaries.items ≡ source.summaries.items → CacheHolds source source' files
     → (told : Cells) → cells_in source files ≡ Some told → cells_in source' files ≡ Some told
 stays source source' files rows each told is =
     ap (λ rows. cells_through rows source'.cells.entries files) rows ∙ still_told source.summaries.items source.cells.entries source'.cells.entries files each told is
 
 pub leaves_of : {S T : Type 0} {holds : S → Option Files} {log : S → Option (List Change)} {faults : S → ℕ} {source source' : CachedCells} {store store' : S} {result : Result T SourceFault}
-    → source'.summaries.items ≡ source.summaries.items → Holds source source' (holds store) → holds store' ≡ holds store → log store' ≡ log store
+    → source'.summaries.items ≡ source.summaries.items → CacheHolds source source' (holds store) → holds store' ≡ holds store → log store' ≡ log store
     → FaultHasCause (faults store) (faults store') result → TroubleIsShown (shapes_in source) (holds store) (cells_in source (holds store)) result → Marks source.is_spoilt source'.is_spoilt result
     → Leaves cells_in shapes_in is_sure is_spoilt holds log faults source source' store store' result
 leaves_of {holds = holds} {source = source} {source' = source'} {store = store} rows each held logged cause shown marks = record {

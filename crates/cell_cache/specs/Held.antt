@@ -4,7 +4,7 @@ use Rattle.terrain_base.specs.declared.cell_key.CellKey.{CellKey}
 use Rattle.terrain_base.specs.declared.post.Post.{Post}
 use Rattle.dted_cell.specs.Cell.{columns_in, rows_in, post_in}
 use Rattle.cell_mosaic.specs.declared.quad.Quad.{Quad}
-use Rattle.cell_mosaic.specs.Cells.{IsPost}
+use Rattle.dted_cell.specs.Elevation.{IsPost}
 use Rattle.cell_mosaic.specs.Value.{quad_round, HasRound, ArePosts}
 use Rattle.cell_cache.specs.declared.slot.Slot.{Slot}
 use Rattle.cell_cache.specs.Slot.{slot_at}

@@ -51,7 +51,8 @@ impl CachedCells {
     ghost use Rattle.terrain_base.specs.declared.cell_key.CellKey.{CellKey};
     ghost use Rattle.terrain_base.specs.Step.{Files};
     ghost use Rattle.terrain_base.specs.declared.level.CellLevel.TheVariants as CellLevel;
-    ghost use Rattle.cell_mosaic.specs.Cells.{Cells, HasPost, IsPost, post_at, first_level, coarser_levels};
+    ghost use Rattle.dted_cell.specs.Elevation.{IsPost};
+    ghost use Rattle.cell_mosaic.specs.Cells.{Cells, HasPost, post_at, first_level, coarser_levels};
     ghost use Rattle.cell_mosaic.specs.Source.{GivesTold, Leaves};
     ghost use Rattle.cell_mosaic.specs.Summaries.{summaries_of};
     ghost use Rattle.cell_cache.specs.Cached.{HoldsCells, shapes_of_rows};

@@ -6,7 +6,7 @@ use Rattle.std.proofs.lemmas.List.{at_drop_more}
 use Rattle.terrain_base.specs.declared.post.Post.{Post}
 use Rattle.terrain_base.specs.declared.post.Post.TheVariants.{Void, Metres}
 use Rattle.cell_mosaic.specs.declared.weighted.Weighted.{Weighted}
-use Rattle.cell_mosaic.specs.Cells.{IsPost}
+use Rattle.dted_cell.specs.Elevation.{IsPost}
 use Rattle.cell_mosaic.specs.Blend.{has_no_height, counted, known, greatest_weight, post_of_first, heaviest}
 
 -- what counts and is not void

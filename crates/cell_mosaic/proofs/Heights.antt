@@ -5,14 +5,13 @@ use Rattle.std.proofs.lemmas.Int.{ints}
 use Rattle.std.proofs.lemmas.Bool.{ltb-true, ltb-false}
 use Rattle.terrain_base.specs.declared.post.Post.TheVariants.{Void, Metres}
 use Rattle.terrain_base.specs.Height.{IsHeight}
-use Rattle.dted_cell.specs.Elevation.{post_of, signed_of, IsElevation}
+use Rattle.dted_cell.specs.Elevation.{IsPost, post_of, signed_of, IsElevation}
 use Rattle.dted_cell.specs.Field.{word_at}
-use Rattle.dted_cell.specs.Lead.{text_of}
+use Rattle.dted_cell.specs.Lead.{text_behind_lead}
 use Rattle.dted_cell.specs.Refusal.{refusal_of}
 use Rattle.dted_cell.specs.Cell.{columns_in, rows_in, post_in, profile_in}
 use Rattle.dted_cell.proofs.Views.{row_within}
 use Rattle.dted_cell.proofs.WholeCells.{cell_by}
-use Rattle.cell_mosaic.specs.Cells.{IsPost}
 
 low : (w : ℕ) → w % 32768 ≤ 16000 → w < 32768 → IsHeight (pos w)
 low w h l = record { above = omega (arith, ints); below = omega (arith, ints) }
@@ -37,5 +36,5 @@ by_word w (inr h) u = elim (w == 65535) as (λ b. IsPost (cond b Void (Metres (s
 pub post_is_height : (bytes : List ℕ) (col row w : ℕ) → refusal_of bytes ≡ None → col < columns_in bytes → row < rows_in bytes → w < 65536 → w ≡ word_at (profile_in bytes col) (2 * row) → IsPost (post_in bytes col row)
 unfolding columns_in rows_in profile_in post_in
 post_is_height bytes col row w good h k u same =
-    let e = same ∙ row_within (text_of bytes) (rows_in bytes) col row k in
+    let e = same ∙ row_within (text_behind_lead bytes) (rows_in bytes) col row k in
     subst (λ n. IsPost (post_of n)) e (by_word w (subst IsElevation (sym e) (((cell_by bytes good).records col h).heights row k)) u)

@@ -17,16 +17,17 @@ use Rattle.terrain_base.specs.declared.post.Post.TheVariants.{Void, Metres}
 use Rattle.terrain_base.specs.Level.{rows_of, columns_of}
 use Rattle.terrain_base.proofs.Quotients.{floor_is}
 use Rattle.tms_tree.specs.declared.place.Place.{Place}
-use Rattle.tms_tree.specs.Degrees.{Holds, square_rectangle}
+use Rattle.tms_tree.specs.Degrees.{RectangleHolds, square_rectangle}
 use Rattle.tms_tree.specs.Place.{IsPlace, point_of}
 use Rattle.dted_cell.specs.Cell.{columns_in, rows_in, level_in, post_in, profile_in}
 use Rattle.dted_cell.specs.Field.{word_at}
-use Rattle.dted_cell.specs.Lead.{lead_of, text_of}
+use Rattle.dted_cell.specs.Lead.{lead_of, text_behind_lead}
 use Rattle.dted_cell.specs.Record.{elevation_at}
 use Rattle.cell_mosaic.specs.declared.quad.Quad.{Quad}
 use Rattle.cell_mosaic.specs.declared.weighted.Weighted.{Weighted}
 use Rattle.cell_mosaic.specs.Blend.{weighted, times, weighted_sum, counted, known, heaviest, rounded, has_no_height, value_of, blend_of, IsWithinWeight}
-use Rattle.cell_mosaic.specs.Cells.{Cells, AreSound, IsPost, IsSoundCell}
+use Rattle.dted_cell.specs.Elevation.{IsPost}
+use Rattle.cell_mosaic.specs.Cells.{Cells, AreSound, IsSoundCell}
 use Rattle.cell_mosaic.specs.Value.{ArePosts, east_of, north_of, steps_east, steps_north, quad_at, unless_ignored, value_in_cell, value_or_void, value_in_key, is_known, known_or_void, value_at}
 use Rattle.cell_mosaic.proofs.Heaviest as heaviest
 use Rattle.cell_mosaic.proofs.Heaviest.{heaviest_is_post}
@@ -116,7 +117,7 @@ below n d p = omega (arith, p)
 pub north_within : (q d lat : ℕ) → lat * d ≤ q → q ≤ (lat + 1) * d → q - lat * d ≤ d
 north_within q d lat h k = omega (arith, h, k)
 
-pub value_in_cell_is : (posts : ℕ → ℕ → Post) (square : Square) (level : CellLevel) (place : Place) → IsPlace place → Holds (square_rectangle square) (point_of place)
+pub value_in_cell_is : (posts : ℕ → ℕ → Post) (square : Square) (level : CellLevel) (place : Place) → IsPlace place → RectangleHolds (square_rectangle square) (point_of place)
     → ((col row : ℕ) → col < columns_of square level → row < rows_of level → IsPost (posts col row)) → IsPost (value_in_cell posts square level place)
 unfolding value_in_cell
 value_in_cell_is posts square level place fit holds all =
@@ -157,11 +158,11 @@ word_small bytes at h =
     omega (arith, a, b)
 
 profile_bytes : (bytes : List ℕ) (col : ℕ) → AreBytes bytes → AreBytes (profile_in bytes col)
-unfolding profile_in text_of
+unfolding profile_in text_behind_lead
 profile_bytes bytes col h =
     let rows = rows_in bytes in
     let from = elevation_at rows col 0 in
-    taken (elevation_at rows col rows - from) (drop from (text_of bytes)) (dropped from (text_of bytes) (dropped (lead_of bytes) bytes h))
+    taken (elevation_at rows col rows - from) (drop from (text_behind_lead bytes)) (dropped from (text_behind_lead bytes) (dropped (lead_of bytes) bytes h))
 
 post_is : (key : CellKey) (bytes : List ℕ) (col row : ℕ) → IsSoundCell key bytes → col < columns_of key.square (level_in bytes) → row < rows_of (level_in bytes) → IsPost (post_in bytes col row)
 unfolding columns_in rows_in
@@ -169,7 +170,7 @@ post_is key bytes col row sound h k =
     post_is_height bytes col row (word_at (profile_in bytes col) (2 * row)) sound.cell.accepted
     (subst (λ (s : Square). col < columns_of s (level_in bytes)) (sym sound.cell.square) h) k (word_small (profile_in bytes col) (2 * row) (profile_bytes bytes col sound.each)) refl
 
-value_in : (o : Option (List ℕ)) (key : CellKey) (place : Place) → IsPlace place → Holds (square_rectangle key.square) (point_of place)
+value_in : (o : Option (List ℕ)) (key : CellKey) (place : Place) → IsPlace place → RectangleHolds (square_rectangle key.square) (point_of place)
     → ((bytes : List ℕ) → o ≡ Some bytes → IsSoundCell key bytes) → IsPost (value_or_void o key.square place)
 value_in None key place fit holds all = tt
 value_in (Some bytes) key place fit holds all =
@@ -185,7 +186,7 @@ first_is cells square place each [] = tt
 first_is cells square place each (level ∷ levels) = one_in_front (value_in_key cells (key_at square level) place) (map (λ l. value_in_key cells (key_at square l) place) levels) (each (key_at square level) refl) (first_is cells square place each levels)
 
 -- the law
-pub values_are_posts : (cells : Cells) (square : Square) (place : Place) → AreSound cells → IsPlace place → Holds (square_rectangle square) (point_of place) → IsPost (value_at cells square place)
+pub values_are_posts : (cells : Cells) (square : Square) (place : Place) → AreSound cells → IsPlace place → RectangleHolds (square_rectangle square) (point_of place) → IsPost (value_at cells square place)
 unfolding value_at
 values_are_posts cells square place sound fit holds =
-    first_is cells square place (λ key same. value_in (get cells key) key place fit (subst (λ s. Holds (square_rectangle s) (point_of place)) (sym same) holds) (sound key)) all_levels
+    first_is cells square place (λ key same. value_in (get cells key) key place fit (subst (λ s. RectangleHolds (square_rectangle s) (point_of place)) (sym same) holds) (sound key)) all_levels

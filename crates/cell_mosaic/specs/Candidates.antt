@@ -2,7 +2,7 @@
 use Rattle.std.specs.Prelude.{◌↔◌, ℕ, ◌+◌, ◌-◌, ◌*◌, ◌/◌, ◌%◌, ◌==◌, Bool, ◌&&◌, nat_lt, List, [], ◌∷◌, ◌++◌, Contains, if◌then◌else◌}
 use Rattle.terrain_base.specs.declared.square.Square.{Square}
 use Rattle.tms_tree.specs.declared.place.Place.{Place}
-use Rattle.tms_tree.specs.Degrees.{Holds, square_rectangle}
+use Rattle.tms_tree.specs.Degrees.{RectangleHolds, square_rectangle}
 use Rattle.tms_tree.specs.Place.{IsPlace, point_of}
 use Rattle.dted_cell.specs.Header.{square_of}
 
@@ -41,4 +41,4 @@ candidates_of place =
 -- a square is a candidate exactly where its closed rectangle holds the place, longitudes modulo 360
 abbrev pub AreHolders : Type 0
 AreHolders = (place : Place) (square : Square) → IsPlace place
-    → Contains (candidates_of place) square ↔ Holds (square_rectangle square) (point_of place)
+    → Contains (candidates_of place) square ↔ RectangleHolds (square_rectangle square) (point_of place)

@@ -8,9 +8,8 @@ use Rattle.terrain_base.specs.declared.level.CellLevel.{CellLevel}
 use Rattle.terrain_base.specs.declared.level.CellLevel.TheVariants.{Zero, One, Two}
 use Rattle.terrain_base.specs.declared.cell_key.CellKey.{CellKey}
 use Rattle.terrain_base.specs.declared.post.Post.{Post}
-use Rattle.terrain_base.specs.declared.post.Post.TheVariants.{Void, Metres}
+use Rattle.terrain_base.specs.declared.post.Post.TheVariants.{Void}
 use Rattle.terrain_base.specs.CellKey.{key_at, key_cmp, all_levels}
-use Rattle.terrain_base.specs.Height.{IsHeight}
 use Rattle.terrain_base.specs.Level.{rows_of, columns_of}
 use Rattle.dted_cell.specs.Cell.{post_in}
 use Rattle.dted_cell.specs.Trouble.{IsCellAt}
@@ -63,11 +62,6 @@ post_or_void (Some bytes) col row = post_in bytes col row
 -- the post of the key's cell in a column from the west and a row from the south
 abbrev pub post_at : Cells → CellKey → ℕ → ℕ → Post
 post_at cells key col row = post_or_void (get cells key) col row
-
--- void, or a height
-abbrev pub IsPost : Post → Type 0
-IsPost Void = Unit {0}
-IsPost (Metres metres) = IsHeight metres
 
 -- the bytes are bytes, and a cell of this key
 pub record IsSoundCell (key : CellKey) (bytes : List ℕ) : Type 0 where

@@ -29,10 +29,11 @@ use Rattle.terrain_base.specs.declared.post.Post.{Post}
 use Rattle.terrain_base.specs.declared.post.Post.TheVariants.{Void}
 use Rattle.terrain_base.specs.Level.{rows_of, columns_of}
 use Rattle.tms_tree.specs.declared.place.Place.{Place}
-use Rattle.tms_tree.specs.Degrees.{Holds, square_rectangle}
+use Rattle.tms_tree.specs.Degrees.{RectangleHolds, square_rectangle}
 use Rattle.tms_tree.specs.Place.{IsPlace, point_of}
 use Rattle.dted_cell.specs.Cell.{level_in, columns_in, rows_in, post_in, is_void_post}
-use Rattle.cell_mosaic.specs.Cells.{Cells, AreSound, IsPost}
+use Rattle.dted_cell.specs.Elevation.{IsPost}
+use Rattle.cell_mosaic.specs.Cells.{Cells, AreSound}
 use Rattle.cell_mosaic.specs.Blend.{blend_of}
 use Rattle.cell_mosaic.specs.declared.quad.Quad.{Quad}
 
@@ -118,5 +119,5 @@ pub record ArePosts (quad : Quad) : Type 0 where
 -- a value in a square is void or a height
 abbrev pub ValuesArePosts : Type 0
 ValuesArePosts = (cells : Cells) (square : Square) (place : Place) → AreSound cells → IsPlace place
-    → Holds (square_rectangle square) (point_of place)
+    → RectangleHolds (square_rectangle square) (point_of place)
     → IsPost (value_at cells square place)

@@ -28,7 +28,7 @@ use Rattle.terrain_base.specs.declared.post.Post.TheVariants.{Void, Metres}
 use Rattle.terrain_base.specs.Division.{IsFloor}
 use Rattle.terrain_base.specs.Level.{rows_of, columns_of}
 use Rattle.tms_tree.specs.declared.place.Place.{Place}
-use Rattle.tms_tree.specs.Degrees.{Holds, square_rectangle}
+use Rattle.tms_tree.specs.Degrees.{RectangleHolds, square_rectangle}
 use Rattle.tms_tree.specs.Place.{IsPlace, point_of}
 use Rattle.cell_mosaic.specs.declared.weighted.Weighted.{Weighted}
 use Rattle.cell_mosaic.specs.Value.{steps_east, steps_north, value_in_cell}
@@ -76,7 +76,7 @@ pub record HasMesh (square : Square) (level : CellLevel) (place : Place) : Type 
 -- every place that the square holds does
 abbrev pub PlacesHaveMeshes : Type 0
 PlacesHaveMeshes = (square : Square) (level : CellLevel) (place : Place)
-    → IsPlace place → Holds (square_rectangle square) (point_of place) → HasMesh square level place
+    → IsPlace place → RectangleHolds (square_rectangle square) (point_of place) → HasMesh square level place
 
 -- the weight of each of the four posts: the rectangle between the spot and the corner opposite to the post
 abbrev pub sw_weight : MeshSpot → ℕ

@@ -2,7 +2,7 @@
 ghost use Rattle.std.specs.Prelude.{◌≡◌, ◌<◌, ◌≤◌, ◌*◌, ◌^◌, ◌+ℤ◌, ◌*ℤ◌, pos};
 ghost use Rattle.std.specs.List.{list_any};
 ghost use Rattle.terrain_base.specs.Height.{IsHeight};
-ghost use Rattle.cell_mosaic.specs.Cells.{IsPost};
+ghost use Rattle.dted_cell.specs.Elevation.{IsPost};
 ghost use Rattle.cell_mosaic.specs.Blend.{
   weighted,
   times,

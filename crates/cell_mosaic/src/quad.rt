@@ -1,7 +1,7 @@
 // The posts round a place.
 ghost use Rattle.std.specs.Prelude.{◌≡◌, ◌+◌, ◌*◌, ◌<◌, ◌≤◌, length, IsFalse};
 ghost use Rattle.dted_cell.specs.Cell.{post_in, post_of_row};
-ghost use Rattle.cell_mosaic.specs.Cells.{IsPost};
+ghost use Rattle.dted_cell.specs.Elevation.{IsPost};
 ghost use Rattle.cell_mosaic.specs.Value.{unless_ignored, quad_round, ArePosts, HasRound};
 
 use dted_cell::{CellBytes, ProfileView};

@@ -14,7 +14,7 @@ ghost use Rattle.std.specs.Prelude.{
 };
 ghost use Rattle.terrain_base.specs.Height.{IsHeight};
 ghost use Rattle.terrain_base.specs.declared.post.Post.TheVariants.{Metres};
-ghost use Rattle.cell_mosaic.specs.Cells.{IsPost};
+ghost use Rattle.dted_cell.specs.Elevation.{IsPost};
 ghost use Rattle.cell_mosaic.specs.Blend.{IsWithinWeight, rounded, heights_round, blend_of};
 
 use crate::Quad;

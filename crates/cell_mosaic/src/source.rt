@@ -1,7 +1,8 @@
 // A source of posts.
 ghost use Rattle.std.specs.Prelude.{◌≡◌, ◌+◌, ◌<◌, Bool, Option, Some, IfOk, IfSome, IsFalse};
 ghost use Rattle.terrain_base.specs.Step.{Files};
-ghost use Rattle.cell_mosaic.specs.Cells.{Cells, Shapes, AreCells, HasPost, IsPost, post_at, finest_of, coarser_of};
+ghost use Rattle.dted_cell.specs.Elevation.{IsPost};
+ghost use Rattle.cell_mosaic.specs.Cells.{Cells, Shapes, AreCells, HasPost, post_at, finest_of, coarser_of};
 ghost use Rattle.cell_mosaic.specs.Source.{GivesTold, Leaves, AlikeCells};
 ghost use Rattle.cell_mosaic.specs.Value.{unless_ignored, quad_round, ArePosts};
 

@@ -1,6 +1,6 @@
 // Candidates and blends of worked places, and a cell in memory.
 ghost use Rattle.std.specs.Prelude.{IsTrue};
-ghost use Rattle.cell_mosaic.specs.Cells.{IsPost};
+ghost use Rattle.dted_cell.specs.Elevation.{IsPost};
 
 use super::*;
 use dted_cell::CellBytes;

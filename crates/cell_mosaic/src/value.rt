@@ -2,9 +2,10 @@
 ghost use Rattle.std.specs.Prelude.{◌≡◌, true, ◌+◌, ◌-◌, ◌*◌, ◌/◌, ◌%◌, ◌^◌, ◌<◌, ◌≤◌, ◌==◌, IsSome, IfOk};
 ghost use Rattle.std.specs.FinSet as set;
 ghost use Rattle.terrain_base.specs.Level.{rows_of, columns_of};
-ghost use Rattle.tms_tree.specs.Degrees.{Holds, square_rectangle};
+ghost use Rattle.tms_tree.specs.Degrees.{RectangleHolds, square_rectangle};
 ghost use Rattle.tms_tree.specs.Place.{IsPlace, point_of};
-ghost use Rattle.cell_mosaic.specs.Cells.{IsPost, finest_of, coarser_levels};
+ghost use Rattle.dted_cell.specs.Elevation.{IsPost};
+ghost use Rattle.cell_mosaic.specs.Cells.{finest_of, coarser_levels};
 ghost use Rattle.cell_mosaic.specs.Source.{GivesTold, Leaves};
 ghost use Rattle.cell_mosaic.specs.Value.{east_of, north_of, value_in_key, value_in_levels, value_at};
 
@@ -15,7 +16,7 @@ use tms_tree::Place;
 /// How far the place lies east of the square's western meridian, in units of a degree over `d`.
 fn east(square: Square, place: Place) -> u64
     requires place { IsPlace place }
-    requires holds { Holds (square_rectangle square) (point_of place) }
+    requires holds { RectangleHolds (square_rectangle square) (point_of place) }
     ensures value { result ≡ east_of square place }
     ensures within { result ≤ place.d }
 {
@@ -25,7 +26,7 @@ fn east(square: Square, place: Place) -> u64
 /// How far the place lies north of the square's southern parallel, in units of a degree over `d`.
 fn north(square: Square, place: Place) -> u64
     requires place { IsPlace place }
-    requires holds { Holds (square_rectangle square) (point_of place) }
+    requires holds { RectangleHolds (square_rectangle square) (point_of place) }
     ensures value { result ≡ north_of square place }
     ensures within { result ≤ place.d }
 {
@@ -57,7 +58,7 @@ fn value_in_cell<P: PostSource, S: Store>(
 ) -> Result<Post, SourceFault>
     requires place { IsPlace place }
     requires known { set.contains (P.shapes src.old) key ≡ true }
-    requires holds { Holds (square_rectangle key.square) (point_of place) }
+    requires holds { RectangleHolds (square_rectangle key.square) (point_of place) }
     ensures value { GivesTold (P.cells src.old (S.holds store.old))
         (λ told. value_in_key told key place) result }
     ensures height { IfOk result IsPost }
@@ -85,7 +86,7 @@ pub fn coarser_value<P: PostSource, S: Store>(
     place: Place,
 ) -> Result<Post, SourceFault>
     requires place { IsPlace place }
-    requires holds { Holds (square_rectangle key.square) (point_of place) }
+    requires holds { RectangleHolds (square_rectangle key.square) (point_of place) }
     ensures value { GivesTold (P.cells src.old (S.holds store.old))
         (λ told. value_in_levels told key.square place (coarser_levels key.level)) result }
     ensures height { IfOk result IsPost }
@@ -125,7 +126,7 @@ pub fn cell_value<P: PostSource, S: Store>(
 ) -> Result<Post, SourceFault>
     requires place { IsPlace place }
     requires known { IsSome (finest_of (P.shapes src.old) square) }
-    requires holds { Holds (square_rectangle square) (point_of place) }
+    requires holds { RectangleHolds (square_rectangle square) (point_of place) }
     ensures value { GivesTold (P.cells src.old (S.holds store.old))
         (λ told. value_at told square place) result }
     ensures height { IfOk result IsPost }

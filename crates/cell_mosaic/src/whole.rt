@@ -2,7 +2,8 @@
 ghost use Rattle.std.specs.Prelude.{◌≡◌, ◌<◌, false};
 ghost use Rattle.dted_cell.specs.Cell.{columns_in, rows_in, post_in};
 ghost use Rattle.dted_cell.specs.Trouble.{IsCellAt};
-ghost use Rattle.cell_mosaic.specs.Cells.{IsPost, first_level, coarser_levels};
+ghost use Rattle.dted_cell.specs.Elevation.{IsPost};
+ghost use Rattle.cell_mosaic.specs.Cells.{first_level, coarser_levels};
 ghost use Rattle.terrain_base.specs.CellKey.{key_at};
 ghost use Rattle.terrain_base.specs.declared.level.CellLevel.TheVariants as CellLevel;
 ghost use Rattle.cell_mosaic.specs.Whole.{AreOfKeys};

@@ -9,12 +9,12 @@ use Rattle.cell_mosaic.specs.Cells.{Cells}
 use Rattle.cell_cache.specs.Cached.{HoldsCells}
 use Rattle.database.specs.State.{State}
 use Rattle.db_files.specs.Serving.{Serves}
-use Rattle.db_engine.specs.Holding.{Holds}
+use Rattle.db_engine.specs.Holding.{HoldsState}
 use Rattle.db_engine.specs.Opened.{Contents}
 
 -- the source tells the cells that an opened database holds
 pub serves_held : (told : Option Cells) {held now : Option Files} {o : Contents} {s : State} {params : Params}
-    {rows : List Summary} (h : Holds held o s) → now ≡ held → params ≡ o.params → rows ≡ o.rows
+    {rows : List Summary} (h : HoldsState held o s) → now ≡ held → params ≡ o.params → rows ≡ o.rows
     → ((files : Files) → now ≡ Some files → HoldsCells files s.cells → told ≡ Some s.cells) → Serves told params rows s
 serves_held told h same p r tells = record {
   told_is = tells h.files (same ∙ h.held_is)

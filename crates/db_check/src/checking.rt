@@ -4,7 +4,7 @@ ghost use Rattle.tile_deps.specs.Tiles.{existing};
 ghost use Rattle.database.specs.Answer.{HasCause, OnlyStops};
 ghost use Rattle.database.specs.State.{State};
 ghost use Rattle.db_files.specs.Trouble.{OnlyStopsOrRowTrouble};
-ghost use Rattle.db_engine.specs.Holding.{Holds};
+ghost use Rattle.db_engine.specs.Holding.{HoldsState};
 ghost use Rattle.db_check.specs.Verdict.{IsVerdictOf};
 
 use crate::CheckVerdict;
@@ -34,9 +34,9 @@ pub fn check<S: Store>(
     work: &mut Work,
 ) -> Result<CheckVerdict, EngineAnswer>
     requires { opened.now.live ≡ true }
-    ensures verdict { IfOk result (λ verdict. (s : State) (h : Holds (S.holds store.old) opened.now s)
+    ensures verdict { IfOk result (λ verdict. (s : State) (h : HoldsState (S.holds store.old) opened.now s)
         → IsVerdictOf s h.files verdict) }
-    ensures stop { (s : State) → Holds (S.holds store.old) opened.now s → OnlyStops result }
+    ensures stop { (s : State) → HoldsState (S.holds store.old) opened.now s → OnlyStops result }
     ensures trouble { OnlyStopsOrRowTrouble opened.now.rows (S.holds store.old) result }
     ensures few { work.new ≤ work.old + length (existing opened.now.params.cap opened.now.rows) }
     ensures more { work.old ≤ work.new }

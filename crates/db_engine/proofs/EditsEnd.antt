@@ -30,7 +30,7 @@ use Rattle.database.proofs.Standing.{closed_stands}
 use Rattle.database.proofs.Tests.{is_name, name_other, key_self}
 use Rattle.db_files.specs.Serving.{Closing, count_existing}
 use Rattle.db_engine.specs.Edited.{EditRan, Edited, EditedBy, Ends, Turned, ReadsAsOldOrNew}
-use Rattle.db_engine.specs.Holding.{Holds, Stands}
+use Rattle.db_engine.specs.Holding.{HoldsState, Stands}
 use Rattle.db_engine.specs.Opened.{Contents}
 use Rattle.db_engine.specs.Rows.{with_row, without_row, refusal_by_rows}
 use Rattle.db_engine.proofs.CellRows.{put_summaries, drop_summaries, row_keys_are, rows_are_after, refusal_is, state_after, IsSoundEdit, HasRoomFor}
@@ -58,7 +58,7 @@ drop_opening s k params rows p r =
 pub left_at : (files : Files) (name q : Key) (bytes : List ℕ) → is_name q name ≡ false → get (insert files name bytes) q ≡ get files q
 left_at files name q bytes e = get-insert by_text_total files name bytes q ∙ rw e refl
 
-pub put_closing : {held held' : Option Files} {log log' : Option (List Change)} {o : Contents} (s : State) (k : CellKey) (bytes text : List ℕ) (params : Params) (rows : List Summary) → Holds held o s → AreSound (after (PutCell k bytes) s).cells
+pub put_closing : {held held' : Option Files} {log log' : Option (List Change)} {o : Contents} (s : State) (k : CellKey) (bytes text : List ℕ) (params : Params) (rows : List Summary) → HoldsState held o s → AreSound (after (PutCell k bytes) s).cells
     → params ≡ s.params → rows ≡ summaries_of (after (PutCell k bytes) s).cells
     → AllDone (Write Stage bytes ∷ Write Manifest text ∷ []) held log held' log' → Closing held' params rows k (Some bytes) (after (PutCell k bytes) s)
 put_closing s k bytes text params rows h sound p r done =
@@ -75,7 +75,7 @@ put_closing s k bytes text params rows h sound p r done =
           ∙ h.reads.cells j found (sym (get-insert keys_total s.cells k bytes j ∙ rw apart refl) ∙ at);
     }
 
-pub drop_closing : {held held' : Option Files} {log log' : Option (List Change)} {o : Contents} (s : State) (k : CellKey) (text : List ℕ) (params : Params) (rows : List Summary) → Holds held o s → AreSound (after (DropCell k) s).cells
+pub drop_closing : {held held' : Option Files} {log log' : Option (List Change)} {o : Contents} (s : State) (k : CellKey) (text : List ℕ) (params : Params) (rows : List Summary) → HoldsState held o s → AreSound (after (DropCell k) s).cells
     → params ≡ s.params → rows ≡ summaries_of (after (DropCell k) s).cells
     → AllDone (Write Manifest text ∷ []) held log held' log' → Closing held' params rows k None (after (DropCell k) s)
 drop_closing s k text params rows h sound p r done =
@@ -93,13 +93,13 @@ drop_closing s k text params rows h sound p r done =
 
 -- ---- the rows behind the edit, as the code has them
 
-pub put_rows_are : {held : Option Files} {o : Contents} (s : State) (k : CellKey) (bytes : List ℕ) (row : Summary) (rows list : List Summary) → Holds held o s → row ≡ summary_of k bytes → rows ≡ o.rows → list ≡ with_row rows row → list ≡ summaries_of (after (PutCell k bytes) s).cells
+pub put_rows_are : {held : Option Files} {o : Contents} (s : State) (k : CellKey) (bytes : List ℕ) (row : Summary) (rows list : List Summary) → HoldsState held o s → row ≡ summary_of k bytes → rows ≡ o.rows → list ≡ with_row rows row → list ≡ summaries_of (after (PutCell k bytes) s).cells
 put_rows_are s k bytes row rows list h is same made = made ∙ (λ i. with_row ((same ∙ h.rows_is) i) (is i)) ∙ put_summaries s.cells k bytes
 
-pub drop_rows_are : {held : Option Files} {o : Contents} (s : State) (k : CellKey) (rows list : List Summary) → Holds held o s → rows ≡ o.rows → list ≡ without_row rows k → list ≡ summaries_of (after (DropCell k) s).cells
+pub drop_rows_are : {held : Option Files} {o : Contents} (s : State) (k : CellKey) (rows list : List Summary) → HoldsState held o s → rows ≡ o.rows → list ≡ without_row rows k → list ≡ summaries_of (after (DropCell k) s).cells
 drop_rows_are s k rows list h same made = made ∙ ap (λ rs. without_row rs k) (same ∙ h.rows_is) ∙ drop_summaries s.cells k
 
-pub sound_after : {held : Option Files} {o : Contents} (c : Edit) (s : State) → IsSoundEdit c → HasRoomFor c o.rows → Holds held o s → AreSound (after c s).cells
+pub sound_after : {held : Option Files} {o : Contents} (c : Edit) (s : State) → IsSoundEdit c → HasRoomFor c o.rows → HoldsState held o s → AreSound (after c s).cells
 sound_after {o = o} c s sound room h = (state_after c s o.rows h.rows_is sound room h.reads.state).sound
 
 -- ---- a command that was not refused
@@ -111,8 +111,8 @@ same_params (DropCell k) s = refl
 after_all : (c : Edit) (s : State) (files : Files) {held held' : Option Files} {log log' : Option (List Change)} → held ≡ Some files → AllDone (calls c s) held log held' log' → held' ≡ Some (all_changed (calls c s) files)
 after_all c s files is d = d.held ∙ ap (files_after (calls c s)) is ∙ files_of_told (calls c s) files
 
-holds_after : {T : Type 0} (c : Edit) (s : State) (o o' : Contents) (held held' : Option Files) {log log' : Option (List Change)} (result : Result T EngineAnswer) → IsState (after c s) → Holds held o s → Ran (calls c s) held log held' log' result
-    → Turned c o o' result → OnOk result (Holds held' o' (after c s))
+holds_after : {T : Type 0} (c : Edit) (s : State) (o o' : Contents) (held held' : Option Files) {log log' : Option (List Change)} (result : Result T EngineAnswer) → IsState (after c s) → HoldsState held o s → Ran (calls c s) held log held' log' result
+    → Turned c o o' result → OnOk result (HoldsState held' o' (after c s))
 holds_after c s o o' held held' (Ok value) state h r turned = record {
   files = all_changed (calls c s) h.files;
   held_is = after_all c s h.files h.held_is r.ok;
@@ -122,13 +122,13 @@ holds_after c s o o' held held' (Ok value) state h r turned = record {
 }
 holds_after c s o o' held held' (Err e) state h r turned = tt
 
-reads_after : {T : Type 0} (c : Edit) (s : State) (o : Contents) (held held' : Option Files) {log log' : Option (List Change)} (result : Result T EngineAnswer) → IsState (after c s) → Holds held o s → Ran (calls c s) held log held' log' result
+reads_after : {T : Type 0} (c : Edit) (s : State) (o : Contents) (held held' : Option Files) {log log' : Option (List Change)} (result : Result T EngineAnswer) → IsState (after c s) → HoldsState held o s → Ran (calls c s) held log held' log' result
     → OnErr result (IfSome held' (ReadsAsOldOrNew c s))
 reads_after c s o held held' (Ok value) state h r = tt
 reads_after c s o held held' {log = log} {log' = log'} (Err e) state h r =
     any_stop (ReadsAsOldOrNew c s) (calls c s) h.files (subst (λ b. SomeDone (calls c s) b log held' log') h.held_is r.err) (edit_reads c s h.files state h.reads)
 
-pub edit_ran : {T : Type 0} (c : Edit) (s : State) (o o' : Contents) (held held' : Option Files) {log log' : Option (List Change)} {work work' : ℕ} (result : Result T EngineAnswer) → IsSoundEdit c → HasRoomFor c o.rows → Holds held o s
+pub edit_ran : {T : Type 0} (c : Edit) (s : State) (o o' : Contents) (held held' : Option Files) {log log' : Option (List Change)} {work work' : ℕ} (result : Result T EngineAnswer) → IsSoundEdit c → HasRoomFor c o.rows → HoldsState held o s
     → Ran (calls c s) held log held' log' result → OnlyStops result → work' ≤ work + count_existing (after c s) (touched s.params.cap (key_of c).square) → Turned c o o' result
     → EditRan c s held held' log log' o' work work' result
 edit_ran c s o o' held held' result sound room h ran stop few turned =
@@ -142,12 +142,12 @@ edit_ran c s o o' held held' result sound room h ran stop few turned =
     }
 
 -- a command that is refused by its rows is refused, one that is not does its edit
-pub edited_ran : {T : Type 0} (c : Command) (s : State) (o o' : Contents) (held held' : Option Files) {log log' : Option (List Change)} {work work' : ℕ} (result : Result T EngineAnswer) → refusal_by_rows c o.rows ≡ None → Holds held o s
+pub edited_ran : {T : Type 0} (c : Command) (s : State) (o o' : Contents) (held held' : Option Files) {log log' : Option (List Change)} {work work' : ℕ} (result : Result T EngineAnswer) → refusal_by_rows c o.rows ≡ None → HoldsState held o s
     → EditRan (edit_of c) s held held' log log' o' work work' result → Edited c s held held' log log' o' work work' result
 edited_ran c s o o' held held' {log = log} {log' = log'} {work = work} {work' = work'} result none h ran =
     subst (λ refusal. EditedBy refusal (edit_of c) s held held' log log' o' work work' result) (sym none ∙ refusal_is c s o.rows h.rows_is) ran
 
-pub edited_refused : {T : Type 0} (c : Command) (s : State) (o : Contents) (held : Option Files) (log : Option (List Change)) (work work' : ℕ) (answer : EngineAnswer) (result : Result T EngineAnswer) → refusal_by_rows c o.rows ≡ Some answer → result ≡ Err answer → Holds held o s
+pub edited_refused : {T : Type 0} (c : Command) (s : State) (o : Contents) (held : Option Files) (log : Option (List Change)) (work work' : ℕ) (answer : EngineAnswer) (result : Result T EngineAnswer) → refusal_by_rows c o.rows ≡ Some answer → result ≡ Err answer → HoldsState held o s
     → Edited c s held held log log o work work' result
 edited_refused c s o held log work work' answer result refused answered h =
     subst (λ refusal. EditedBy refusal (edit_of c) s held held log log o work work' result) (sym refused ∙ refusal_is c s o.rows h.rows_is)

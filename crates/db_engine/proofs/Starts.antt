@@ -21,20 +21,20 @@ use Rattle.db_files.specs.Serving.{Filling}
 use Rattle.database.specs.Answer.{IsStop}
 use Rattle.database.specs.declared.answer.EngineAnswer.{EngineAnswer}
 use Rattle.database.specs.declared.answer.EngineAnswer.TheVariants as answer
-use Rattle.db_engine.specs.Holding.{Holds, Stands, no_cells, Starts, IsFull}
+use Rattle.db_engine.specs.Holding.{HoldsState, Stands, no_cells, Starts, IsFull}
 use Rattle.db_engine.specs.Settling.{Settles, Rebuilds}
 use Rattle.db_engine.specs.Opened.{Contents}
 
 pub has_all : {files : Files} {s : State} → ReadsAs files s Closed → HasAll files s
 has_all r = record { state = r.state; cells = λ k bytes at. r.cells k bytes at }
 
-pub holds_filling : {held : Option Files} {o : Contents} {s : State} (params : Params) (rows : List Summary) (h : Holds held o s) → params ≡ o.params → rows ≡ o.rows → Filling held params rows h.files s
+pub holds_filling : {held : Option Files} {o : Contents} {s : State} (params : Params) (rows : List Summary) (h : HoldsState held o s) → params ≡ o.params → rows ≡ o.rows → Filling held params rows h.files s
 holds_filling params rows h p q = record { held_is = h.held_is; params_is = p ∙ h.params_is; rows_is = q ∙ h.rows_is; cells = record { sound = h.reads.state.sound; named = λ k bytes at. h.reads.cells k bytes at } }
 
 after_all : (files : Files) (s : State) {before held : Option Files} {log log' : Option (List Change)} → before ≡ Some files → AllDone (rebuild_calls files s) before log held log' → held ≡ Some (all_changed (rebuild_calls files s) files)
 after_all files s is d = d.held ∙ ap (files_after (rebuild_calls files s)) is ∙ files_of_told (rebuild_calls files s) files
 
-pub stands_after : {held held' : Option Files} {o o' : Contents} {s : State} {log log' : Option (List Change)} (h : Holds held o s) → o'.params ≡ o.params → o'.rows ≡ o.rows → AllDone (rebuild_calls h.files s) held log held' log' → Stands held' o' s
+pub stands_after : {held held' : Option Files} {o o' : Contents} {s : State} {log log' : Option (List Change)} (h : HoldsState held o s) → o'.params ≡ o.params → o'.rows ≡ o.rows → AllDone (rebuild_calls h.files s) held log held' log' → Stands held' o' s
 stands_after {s = s} h p q d =
     let now = all_changed (rebuild_calls h.files s) h.files in
     let stands = files_stand s now h.reads.state (calls_end s h.files (has_all h.reads)) in
@@ -62,7 +62,7 @@ reads_now : {files now : Files} {s : State} → ReadsAs files s Closed → (now 
 reads_now {s = s} r (inl same) = record { mark = Closed; reads = subst (λ f. ReadsAs f s Closed) (sym same) r }
 reads_now r (inr st) = record { mark = st.mark; reads = st.stands.reads }
 
-pub rebuilds_of : {T E : Type 0} {held held' : Option Files} {o o' : Contents} {s : State} {log log' : Option (List Change)} (result : Result T E) (h : Holds held o s) → OnOk result (o' ≡ o) → Ran (rebuild_calls h.files s) held log held' log' result → Rebuilds s held' o' result
+pub rebuilds_of : {T E : Type 0} {held held' : Option Files} {o o' : Contents} {s : State} {log log' : Option (List Change)} (result : Result T E) (h : HoldsState held o s) → OnOk result (o' ≡ o) → Ran (rebuild_calls h.files s) held log held' log' result → Rebuilds s held' o' result
 rebuilds_of (Ok value) h same r = record { ok = stands_after h (ap (λ now. now.params) same) (ap (λ now. now.rows) same) r.ok; err = tt }
 rebuilds_of {held' = held'} {s = s} {log = log} {log' = log'} (Err e) h same r = record {
   ok = tt;
@@ -70,7 +70,7 @@ rebuilds_of {held' = held'} {s = s} {log = log} {log' = log'} (Err e) h same r =
       (λ n le. reads_now h.reads (calls_stand s h.files (has_all h.reads) n le));
 }
 
-pub rebuilds_stop : {T E : Type 0} {held held' : Option Files} {o o' : Contents} {s : State} {log log' : Option (List Change)} (result : Result T E) (Q : E → Type 0) → IsErrAnd result Q → (h : Holds held o s) → SomeDone (rebuild_calls h.files s) held log held' log' → Rebuilds s held' o' result
+pub rebuilds_stop : {T E : Type 0} {held held' : Option Files} {o o' : Contents} {s : State} {log log' : Option (List Change)} (result : Result T E) (Q : E → Type 0) → IsErrAnd result Q → (h : HoldsState held o s) → SomeDone (rebuild_calls h.files s) held log held' log' → Rebuilds s held' o' result
 rebuilds_stop (Ok value) Q is h d = absurd is
 rebuilds_stop {held' = held'} {s = s} {log = log} {log' = log'} (Err e) Q is h d = record {
   ok = tt;

@@ -12,7 +12,7 @@ use Rattle.database.specs.State.{State, AreFiles, ReadsFor}
 use Rattle.db_files.specs.Serving.{count_existing}
 use Rattle.db_files.specs.Trouble.{OnlyStopsOrRowTrouble}
 use Rattle.db_engine.specs.Opened.{Contents, contents_of}
-use Rattle.db_engine.specs.Holding.{Holds, Stands}
+use Rattle.db_engine.specs.Holding.{HoldsState, Stands}
 use Rattle.db_engine.specs.Rows.{rows_after}
 
 -- ---- over any store
@@ -48,7 +48,7 @@ pub record EditRefused {T : Type 0} (answer : EngineAnswer) (s : State) (held he
   pub answered : result ≡ Err answer
   pub same_held : held' ≡ held
   pub same_log : log' ≡ log
-  pub holds : Holds held' o' s
+  pub holds : HoldsState held' o' s
 
 -- the files read as the old state or as the new one, whatever is under way
 abbrev pub ReadsAsOldOrNew : Edit → State → Files → Type 0
@@ -60,7 +60,7 @@ ReadsAsOldOrNew edit s files = ReadsFor files s ⊎ ReadsFor files (after edit s
 pub record EditRan {T : Type 0} (edit : Edit) (s : State) (held held' : Option Files)
     (log log' : Option (List Change)) (o' : Contents) (work work' : ℕ) (result : Result T EngineAnswer) : Type 0 where
   pub ran : Ran (calls edit s) held log held' log' result
-  pub holds : OnOk result (Holds held' o' (after edit s))
+  pub holds : OnOk result (HoldsState held' o' (after edit s))
   pub reads : OnErr result (IfSome held' (ReadsAsOldOrNew edit s))
   pub stop : OnlyStops result
   pub few : work' ≤ work + count_existing (after edit s) (touched s.params.cap (key_of edit).square)

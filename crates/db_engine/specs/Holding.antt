@@ -12,7 +12,7 @@ use Rattle.database.specs.declared.answer.EngineAnswer.TheVariants.{CellPresent,
 use Rattle.db_engine.specs.Opened.{Contents}
 
 -- the files that are held read as the state, closed, and its params and its cells in short are those opened
-pub record Holds (held : Option Files) (o : Contents) (s : State) : Type 0 where
+pub record HoldsState (held : Option Files) (o : Contents) (s : State) : Type 0 where
   pub files : Files
   pub held_is : held ≡ Some files
   pub reads : ReadsAs files s Closed
@@ -21,7 +21,7 @@ pub record Holds (held : Option Files) (o : Contents) (s : State) : Type 0 where
 
 -- and they stand for it
 pub record Stands (held : Option Files) (o : Contents) (s : State) : Type 0 where
-  pub holds : Holds held o s
+  pub holds : HoldsState held o s
   pub stands : StandsMarked holds.files s Closed
 
 -- ---- how a database begins

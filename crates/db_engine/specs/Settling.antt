@@ -18,7 +18,7 @@ use Rattle.database.specs.Opening.{Opening, Opens, OldVersion, NotADatabase, InT
 use Rattle.database.specs.State.{State, AreFiles, ReadsAs, ReadsFor, StandsFor, settled}
 use Rattle.db_files.specs.Serving.{count_existing}
 use Rattle.db_engine.specs.Opened.{Contents}
-use Rattle.db_engine.specs.Holding.{Holds, Stands}
+use Rattle.db_engine.specs.Holding.{HoldsState, Stands}
 
 -- the store reads as the state, where the cell of this key is being put
 pub record Staged (held : Option Files) (params : Params) (rows : List Summary) (key : CellKey)
@@ -58,7 +58,7 @@ pub record IsOpened (files : Files) (held : Option Files) (o : Contents) : Type 
   pub state : State
   pub mark : ManifestState
   pub reads : ReadsAs files state mark
-  pub holds : Holds held o state
+  pub holds : HoldsState held o state
 
 -- nothing that can be seen is changed, and no tile is made
 pub record IsIdle (files : Files) (held : Option Files) (log log' : Option (List Change))

@@ -16,7 +16,7 @@ ghost use Rattle.database.specs.Commands.{Add, Replace, Remove, PutCell, DropCel
 ghost use Rattle.database.specs.State.{State};
 ghost use Rattle.db_files.specs.Serving.{count_existing};
 ghost use Rattle.db_engine.specs.Edited.{Refused, Turned, Edited, EditTrouble, Ends};
-ghost use Rattle.db_engine.specs.Holding.{Holds, Stands};
+ghost use Rattle.db_engine.specs.Holding.{HoldsState, Stands};
 ghost use Rattle.db_engine.specs.Rows.{HasRoom, refusal_by_rows};
 
 use crate::Opened;
@@ -82,10 +82,10 @@ fn put_row<S: Store>(
     requires row { row ≡ summary_of key bytes.now }
     requires sound { IsSoundCell key bytes.now }
     requires room { HasRoom opened.old.rows key }
-    ensures ran { (s : State) → Holds (S.holds store.old) opened.old s → Ran (calls (PutCell key bytes.now) s)
+    ensures ran { (s : State) → HoldsState (S.holds store.old) opened.old s → Ran (calls (PutCell key bytes.now) s)
         (S.holds store.old) (S.log store.old) (S.holds store.new) (S.log store.new) result }
-    ensures stop { (s : State) → Holds (S.holds store.old) opened.old s → OnlyStops result }
-    ensures few { (s : State) → Holds (S.holds store.old) opened.old s → work.new
+    ensures stop { (s : State) → HoldsState (S.holds store.old) opened.old s → OnlyStops result }
+    ensures few { (s : State) → HoldsState (S.holds store.old) opened.old s → work.new
         ≤ work.old + count_existing (after (PutCell key bytes.now) s) (touched s.params.cap key.square) }
     ensures turned { Turned (PutCell key bytes.now) opened.old opened.new result }
     ensures trouble { EditTrouble (PutCell key bytes.now) opened.old.rows (S.holds store.old) result }
@@ -110,11 +110,11 @@ fn put_in<S: Store>(
     work: &mut Work,
 ) -> Result<(), EngineAnswer>
     requires room { HasRoom opened.old.rows (key_in cell.now) }
-    ensures ran { (s : State) → Holds (S.holds store.old) opened.old s
+    ensures ran { (s : State) → HoldsState (S.holds store.old) opened.old s
         → Ran (calls (PutCell (key_in cell.now) cell.now) s)
         (S.holds store.old) (S.log store.old) (S.holds store.new) (S.log store.new) result }
-    ensures stop { (s : State) → Holds (S.holds store.old) opened.old s → OnlyStops result }
-    ensures few { (s : State) → Holds (S.holds store.old) opened.old s → work.new ≤ work.old
+    ensures stop { (s : State) → HoldsState (S.holds store.old) opened.old s → OnlyStops result }
+    ensures few { (s : State) → HoldsState (S.holds store.old) opened.old s → work.new ≤ work.old
         + count_existing (after (PutCell (key_in cell.now) cell.now) s)
         (touched s.params.cap (key_in cell.now).square) }
     ensures turned { Turned (PutCell (key_in cell.now) cell.now) opened.old opened.new result }
@@ -135,10 +135,10 @@ fn take_out<S: Store>(
     key: CellKey,
     work: &mut Work,
 ) -> Result<(), EngineAnswer>
-    ensures ran { (s : State) → Holds (S.holds store.old) opened.old s → Ran (calls (DropCell key) s)
+    ensures ran { (s : State) → HoldsState (S.holds store.old) opened.old s → Ran (calls (DropCell key) s)
         (S.holds store.old) (S.log store.old) (S.holds store.new) (S.log store.new) result }
-    ensures stop { (s : State) → Holds (S.holds store.old) opened.old s → OnlyStops result }
-    ensures few { (s : State) → Holds (S.holds store.old) opened.old s
+    ensures stop { (s : State) → HoldsState (S.holds store.old) opened.old s → OnlyStops result }
+    ensures few { (s : State) → HoldsState (S.holds store.old) opened.old s
         → work.new ≤ work.old + count_existing (after (DropCell key) s) (touched s.params.cap key.square) }
     ensures turned { Turned (DropCell key) opened.old opened.new result }
     ensures trouble { EditTrouble (DropCell key) opened.old.rows (S.holds store.old) result }
@@ -167,7 +167,7 @@ pub fn add<S: Store>(
     work: &mut Work,
 ) -> Result<(), EngineAnswer>
     requires { opened.old.live ≡ true }
-    ensures edited { (s : State) → Holds (S.holds store.old) opened.old s
+    ensures edited { (s : State) → HoldsState (S.holds store.old) opened.old s
         → Edited (Add (key_in cell.now) cell.now) s (S.holds store.old) (S.holds store.new)
         (S.log store.old) (S.log store.new) opened.new work.old work.new result }
     ensures ends { (s : State) → Stands (S.holds store.old) opened.old s
@@ -210,7 +210,7 @@ pub fn replace<S: Store>(
     work: &mut Work,
 ) -> Result<(), EngineAnswer>
     requires { opened.old.live ≡ true }
-    ensures edited { (s : State) → Holds (S.holds store.old) opened.old s
+    ensures edited { (s : State) → HoldsState (S.holds store.old) opened.old s
         → Edited (Replace (key_in cell.now) cell.now) s (S.holds store.old) (S.holds store.new)
         (S.log store.old) (S.log store.new) opened.new work.old work.new result }
     ensures ends { (s : State) → Stands (S.holds store.old) opened.old s
@@ -249,7 +249,7 @@ pub fn remove<S: Store>(
     work: &mut Work,
 ) -> Result<(), EngineAnswer>
     requires { opened.old.live ≡ true }
-    ensures edited { (s : State) → Holds (S.holds store.old) opened.old s
+    ensures edited { (s : State) → HoldsState (S.holds store.old) opened.old s
         → Edited (Remove key) s (S.holds store.old) (S.holds store.new)
         (S.log store.old) (S.log store.new) opened.new work.old work.new result }
     ensures ends { (s : State) → Stands (S.holds store.old) opened.old s → refusal_of (Remove key) s ≡ None

@@ -8,7 +8,7 @@ ghost use Rattle.database.specs.Commands.{existing, rebuild_calls};
 ghost use Rattle.database.specs.State.{State};
 ghost use Rattle.db_files.specs.Serving.{count_existing};
 ghost use Rattle.db_files.specs.Trouble.{OnlyStopsOrRowTrouble};
-ghost use Rattle.db_engine.specs.Holding.{Holds, Stands, IsFull, IsStopOrFull, Starts, no_cells};
+ghost use Rattle.db_engine.specs.Holding.{HoldsState, Stands, IsFull, IsStopOrFull, Starts, no_cells};
 ghost use Rattle.db_engine.specs.Opened.{contents_of};
 ghost use Rattle.db_engine.specs.Settling.{IsIdle, Settles, Rebuilds};
 
@@ -65,14 +65,14 @@ pub fn rebuild<S: Store>(
     work: &mut Work,
 ) -> Result<(), EngineAnswer>
     requires { opened.old.live ≡ true }
-    ensures ran { (s : State) (h : Holds (S.holds store.old) opened.old s) → Ran (rebuild_calls h.files s)
+    ensures ran { (s : State) (h : HoldsState (S.holds store.old) opened.old s) → Ran (rebuild_calls h.files s)
         (S.holds store.old) (S.log store.old) (S.holds store.new) (S.log store.new) result }
-    ensures rebuilds { (s : State) → Holds (S.holds store.old) opened.old s
+    ensures rebuilds { (s : State) → HoldsState (S.holds store.old) opened.old s
         → Rebuilds s (S.holds store.new) opened.new result }
     ensures settles { (s : State) → Stands (S.holds store.old) opened.old s → Settles s (S.holds store.new) result }
-    ensures stop { (s : State) → Holds (S.holds store.old) opened.old s → OnlyStops result }
+    ensures stop { (s : State) → HoldsState (S.holds store.old) opened.old s → OnlyStops result }
     ensures trouble { OnlyStopsOrRowTrouble opened.old.rows (S.holds store.old) result }
-    ensures few { (s : State) → Holds (S.holds store.old) opened.old s
+    ensures few { (s : State) → HoldsState (S.holds store.old) opened.old s
         → work.new ≤ work.old + count_existing s (existing s) }
     ensures ok { OnOk result (opened.new ≡ opened.old) }
     ensures dead { OnErr result (opened.new.live ≡ false) }

@@ -5,7 +5,7 @@ ghost use Rattle.database.specs.Answer.{HasCause, OnlyStops};
 ghost use Rattle.database.specs.State.{State};
 ghost use Rattle.database.specs.declared.answer.EngineAnswer.TheVariants.{NoTile};
 ghost use Rattle.db_files.specs.Trouble.{OnlyStopsOrRowTrouble};
-ghost use Rattle.db_engine.specs.Holding.{Holds};
+ghost use Rattle.db_engine.specs.Holding.{HoldsState};
 ghost use Rattle.heightmap_out.specs.Tile.{heightmap_of};
 
 use availability::exists;
@@ -30,12 +30,12 @@ pub fn heightmap_tile<S: Store>(
     tile: TileId,
 ) -> Result<Vec<u8>, EngineAnswer>
     requires { opened.now.live ≡ true }
-    ensures made { IfOk result (λ bytes. (s : State) → Holds (S.holds store.old) opened.now s
+    ensures made { IfOk result (λ bytes. (s : State) → HoldsState (S.holds store.old) opened.now s
         → bytes.items ≡ heightmap_of s.params s.cells tile) }
     ensures long { IfOk result (λ bytes. length bytes.items ≡ 8452) }
     ensures exists { IfOk result (λ bytes. exists_of opened.now.params.cap opened.now.rows tile ≡ true) }
     ensures none { (result ≡ Err (NoTile tile)) ↔ (exists_of opened.now.params.cap opened.now.rows tile ≡ false) }
-    ensures stop { (s : State) → Holds (S.holds store.old) opened.now s
+    ensures stop { (s : State) → HoldsState (S.holds store.old) opened.now s
         → exists_of opened.now.params.cap opened.now.rows tile ≡ true → OnlyStops result }
     ensures trouble { exists_of opened.now.params.cap opened.now.rows tile ≡ true
         → OnlyStopsOrRowTrouble opened.now.rows (S.holds store.old) result }

@@ -12,7 +12,7 @@ use Rattle.terrain_base.specs.declared.name.Key.{Key}
 use Rattle.terrain_base.specs.declared.name.Key.TheVariants.{Manifest, Layer, Stage, Cell, OldCell, Terrain, Note}
 use Rattle.terrain_base.specs.declared.tile.TileId.{TileId}
 use Rattle.terrain_base.specs.Level.{level_number}
-use Rattle.terrain_base.specs.Name.{text_of, tile_text, key_text}
+use Rattle.terrain_base.specs.Name.{name_text, tile_text, key_text}
 use Rattle.terrain_base.specs.SquareText.{square_text}
 use Rattle.terrain_base.proofs.TileNumbers.{small_z, small_y, small_x}
 use Rattle.report_text.proofs.SquareWords.{square_is_ascii}
@@ -33,10 +33,10 @@ tile_is_ascii tile =
     (IsAscii-append (decimal tile.x) _ (IsAscii-decimal tile.x (omega (arith, small_x tile)))
     (IsAscii-append (codes "/") _ slash (IsAscii-decimal tile.y (omega (arith, small_y tile))))))
 
-pub name_is_ascii : (name : Key) → IsAscii (text_of name)
-name_is_ascii Manifest = by_letters (text_of Manifest) (search rules)
-name_is_ascii Layer = by_letters (text_of Layer) (search rules)
-name_is_ascii Stage = by_letters (text_of Stage) (search rules)
+pub name_is_ascii : (name : Key) → IsAscii (name_text name)
+name_is_ascii Manifest = by_letters (name_text Manifest) (search rules)
+name_is_ascii Layer = by_letters (name_text Layer) (search rules)
+name_is_ascii Stage = by_letters (name_text Stage) (search rules)
 name_is_ascii (Cell key) =
     IsAscii-append (codes "cells/") _ (by_letters (codes "cells/") (search rules))
     (IsAscii-append (key_text (codes ".") key) (codes ".dt")

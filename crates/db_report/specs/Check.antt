@@ -1,6 +1,6 @@
 -- The line of a check.
 use Rattle.std.specs.Prelude.{ℕ, List, [], ◌∷◌, codes, decimal}
-use Rattle.terrain_base.specs.Name.{text_of}
+use Rattle.terrain_base.specs.Name.{name_text}
 use Rattle.database.specs.declared.verdict.Difference.{Difference}
 use Rattle.database.specs.declared.verdict.Difference.TheVariants.{Differs, Missing, Extra}
 use Rattle.db_check.specs.declared.verdict.CheckVerdict.{CheckVerdict}
@@ -15,4 +15,4 @@ difference_word Extra = codes "extra"
 -- `check good files N`, or `found differs NAME`, `found missing NAME`, `found extra NAME`
 abbrev pub check_line_of : CheckVerdict → List ℕ
 check_line_of (Good files) = joined (codes "check good files " ∷ decimal files ∷ [])
-check_line_of (Found name kind) = joined (codes "found " ∷ difference_word kind ∷ codes " " ∷ text_of name ∷ [])
+check_line_of (Found name kind) = joined (codes "found " ∷ difference_word kind ∷ codes " " ∷ name_text name ∷ [])

@@ -3,7 +3,7 @@ use Rattle.std.specs.Prelude.{◌<◌, ◌^◌, ℕ, ℤ, List, [], ◌∷◌, l
 use Rattle.float_bits.specs.Binary32.{IsBits32}
 use Rattle.terrain_base.specs.declared.tile.TileId.{TileId}
 use Rattle.terrain_base.specs.Name.{tile_text}
-use Rattle.mesh_codec.specs.declared.edge.Edge.TheVariants.{West, South, East, North}
+use Rattle.terrain_base.specs.declared.side.Side.TheVariants.{West, South, East, North}
 use Rattle.mesh_codec.specs.Layout.{vertices_in, triangles_in}
 use Rattle.mesh_codec.specs.Tile.{edge_list}
 use Rattle.report_text.specs.Words.{joined, number_or_dash}

@@ -5,12 +5,12 @@ ghost use Rattle.db_report.specs.Tile.{IsHeightWord, edges_text, tile_line_of};
 
 use crate::words::{number_word, tile_word};
 use float_bits::lattice32;
-use mesh_codec::{Edge, TileView};
+use mesh_codec::TileView;
 use std::alloc::Global;
-use terrain_base::{NoMemory, TileId};
+use terrain_base::{NoMemory, Side, TileId};
 
 // How many vertices lie on an edge.
-fn count_on(view: &TileView<'_>, edge: Edge) -> u64
+fn count_on(view: &TileView<'_>, edge: Side) -> u64
     ensures { result ≡ length (edge_list view.now edge) }
 {
     let mut count: u64 = 0;
@@ -24,10 +24,10 @@ fn count_on(view: &TileView<'_>, edge: Edge) -> u64
 fn edges_word(alloc: Global, view: &TileView<'_>) -> Result<String, NoMemory>
     ensures { IfOk result (λ text. string_bytes text ≡ edges_text view.now) }
 {
-    let west = count_on(view, Edge::West);
-    let south = count_on(view, Edge::South);
-    let east = count_on(view, Edge::East);
-    let north = count_on(view, Edge::North);
+    let west = count_on(view, Side::West);
+    let south = count_on(view, Side::South);
+    let east = count_on(view, Side::East);
+    let north = count_on(view, Side::North);
     Ok(format!(in alloc; "{west} {south} {east} {north}")?)
 }
 

@@ -2,7 +2,7 @@
 ghost use Rattle.std.specs.Prelude.{◌≡◌, IfOk, option_map, pos, string_bytes};
 ghost use Rattle.std.specs.Str.{IsAscii};
 ghost use Rattle.report_text.specs.Words.{number_or_dash};
-ghost use Rattle.terrain_base.specs.Name.{text_of, tile_text};
+ghost use Rattle.terrain_base.specs.Name.{name_text, tile_text};
 ghost use Rattle.terrain_base.specs.SquareText.{square_text};
 
 use std::alloc::Global;
@@ -30,7 +30,7 @@ pub(crate) fn square_word(alloc: Global, square: Square) -> Result<String, NoMem
 
 // The text of a name.
 pub(crate) fn name_word(alloc: Global, name: &Name) -> Result<String, NoMemory>
-    ensures { IfOk result (λ text. string_bytes text ≡ text_of name.now) }
+    ensures { IfOk result (λ text. string_bytes text ≡ name_text name.now) }
 {
     spelled(alloc, name.bytes())
 }

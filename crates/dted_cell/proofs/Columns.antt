@@ -10,7 +10,7 @@ use Rattle.terrain_base.specs.declared.post.Post.TheVariants.{Void, Metres}
 use Rattle.terrain_base.specs.declared.post.Extremes.{Extremes}
 use Rattle.dted_cell.specs.declared.refusal.CellRefusal.{CellRefusal}
 use Rattle.dted_cell.specs.declared.counts.Counts.{Counts}
-use Rattle.dted_cell.specs.Lead.{text_of}
+use Rattle.dted_cell.specs.Lead.{text_behind_lead}
 use Rattle.dted_cell.specs.Record.{posts_at}
 use Rattle.dted_cell.specs.Cell.{columns_in, rows_in, post_in, posts_in, is_void_post, voids_in, widened, extremes_in}
 use Rattle.dted_cell.specs.Counts.{joined, IsCounted}
@@ -54,11 +54,11 @@ extremes_next f n before more is_before is_more =
     ap (joined before) is_more ∙ sym (joined_column before (f n)) ∙ ap (λ o. fold widened o (f n)) is_before ∙ sym (fold_next (fold widened) f None n)
 
 -- ---- the posts of a file
-posts_are : (bytes text : List ℕ) (columns rows : ℕ) → text ≡ text_of bytes → columns ≡ columns_in bytes → rows ≡ rows_in bytes → map (posts_at text rows) (range_with_len 0 columns) ≡ posts_in bytes
+posts_are : (bytes text : List ℕ) (columns rows : ℕ) → text ≡ text_behind_lead bytes → columns ≡ columns_in bytes → rows ≡ rows_in bytes → map (posts_at text rows) (range_with_len 0 columns) ≡ posts_in bytes
 unfolding posts_in post_in
 posts_are bytes text columns rows t c r = rw (t, c, r) refl
 
-counted_by : (bytes text : List ℕ) (columns rows : ℕ) (counts : Counts) → text ≡ text_of bytes → columns ≡ columns_in bytes → rows ≡ rows_in bytes
+counted_by : (bytes text : List ℕ) (columns rows : ℕ) (counts : Counts) → text ≡ text_behind_lead bytes → columns ≡ columns_in bytes → rows ≡ rows_in bytes
     → counts.voids ≡ sum_by (count_by is_void_post) (map (posts_at text rows) (range_with_len 0 columns)) → counts.extremes ≡ fold (fold widened) None (map (posts_at text rows) (range_with_len 0 columns)) → IsCounted bytes counts
 unfolding voids_in extremes_in
 counted_by bytes text columns rows counts t c r voids extremes =
@@ -66,7 +66,7 @@ counted_by bytes text columns rows counts t c r voids extremes =
     record { voids_are = voids ∙ ap (sum_by (count_by is_void_post)) posts; extremes_are = extremes ∙ ap (fold (fold widened) None) posts }
 
 -- the same of an answer
-pub counted_if : (bytes text : List ℕ) (columns rows : ℕ) (result : Result Counts CellRefusal) → text ≡ text_of bytes → columns ≡ columns_in bytes → rows ≡ rows_in bytes
+pub counted_if : (bytes text : List ℕ) (columns rows : ℕ) (result : Result Counts CellRefusal) → text ≡ text_behind_lead bytes → columns ≡ columns_in bytes → rows ≡ rows_in bytes
     → IfOk result (λ counts. counts.voids ≡ sum_by (count_by is_void_post) (map (posts_at text rows) (range_with_len 0 columns)))
     → IfOk result (λ counts. counts.extremes ≡ fold (fold widened) None (map (posts_at text rows) (range_with_len 0 columns)))
     → IfOk result (IsCounted bytes)

@@ -8,7 +8,7 @@ use Rattle.terrain_base.specs.declared.post.Post.{Post}
 use Rattle.terrain_base.specs.declared.post.Post.TheVariants.{Void, Metres}
 use Rattle.terrain_base.specs.Height.{IsHeight}
 use Rattle.dted_cell.specs.Field.{word_at}
-use Rattle.dted_cell.specs.Lead.{lead_of, text_of}
+use Rattle.dted_cell.specs.Lead.{lead_of, text_behind_lead}
 use Rattle.dted_cell.specs.Elevation.{post_of, signed_of, IsElevation, IsPost}
 use Rattle.dted_cell.specs.Record.{elevation_at}
 use Rattle.dted_cell.specs.Refusal.{refusal_of}
@@ -45,7 +45,7 @@ post_is w post same u elevation = subst IsPost (sym same) (by_word w elevation u
 
 -- the word of each place is an elevation
 elevation_here : (bytes : List ℕ) (col row : ℕ) → refusal_of bytes ≡ None → col < columns_in bytes → row < rows_in bytes
-    → IsElevation (word_at (text_of bytes) (elevation_at (rows_in bytes) col row))
+    → IsElevation (word_at (text_behind_lead bytes) (elevation_at (rows_in bytes) col row))
 unfolding columns_in rows_in
 elevation_here bytes col row accepted h k = ((cell_by bytes accepted).records col h).heights row k
 
@@ -56,11 +56,11 @@ profile_elevations bytes col accepted h row within =
     let rows = rows_in bytes in
     let from = elevation_at rows col 0 in
     let to = elevation_at rows col rows in
-    let row_in : row < rows = omega (arith, length-take (to - from) (drop from (text_of bytes)), within) in
-    subst IsElevation (sym (row_within (text_of bytes) rows col row row_in)) (elevation_here bytes col row accepted h row_in)
+    let row_in : row < rows = omega (arith, length-take (to - from) (drop from (text_behind_lead bytes)), within) in
+    subst IsElevation (sym (row_within (text_behind_lead bytes) rows col row row_in)) (elevation_here bytes col row accepted h row_in)
 
-word_below : (bytes : List ℕ) (at : ℕ) → ((k : ℕ) → slice_index bytes k < 256) → word_at (text_of bytes) at < 65536
-unfolding text_of
+word_below : (bytes : List ℕ) (at : ℕ) → ((k : ℕ) → slice_index bytes k < 256) → word_at (text_behind_lead bytes) at < 65536
+unfolding text_behind_lead
 word_below bytes at small =
     omega (arith, get_or-drop (lead_of bytes) bytes at 0, get_or-drop (lead_of bytes) bytes (at + 1) 0, small (lead_of bytes + at), small (lead_of bytes + (at + 1)))
 

@@ -25,12 +25,12 @@ Coded : Post → ℕ → ℕ → Type 0
 Coded Void low k = (low ≡ 65535) × (k ≤ 1)
 Coded (Metres z) low k = (z +ℤ pos 32768 ≡ pos k) × ((low ≡ k) × ((2 ≤ k) × (k ≤ 48768)))
 
-Holds : Option Extremes → ℕ → ℕ → Type 0
-Holds None l g = (l ≡ 65535) × (g ≤ 1)
-Holds (Some e) l g = (e.least +ℤ pos 32768 ≡ pos l) × ((e.greatest +ℤ pos 32768 ≡ pos g) × ((l ≤ 48768) × (2 ≤ g)))
+KeysHold : Option Extremes → ℕ → ℕ → Type 0
+KeysHold None l g = (l ≡ 65535) × (g ≤ 1)
+KeysHold (Some e) l g = (e.least +ℤ pos 32768 ≡ pos l) × ((e.greatest +ℤ pos 32768 ≡ pos g) × ((l ≤ 48768) × (2 ≤ g)))
 
-step : (o : Option Extremes) (l g : ℕ) (post : Post) (low k : ℕ) → Holds o l g → Coded post low k → Holds (widened o post) (min l low) (max g k)
-unfolding Holds Coded
+step : (o : Option Extremes) (l g : ℕ) (post : Post) (low k : ℕ) → KeysHold o l g → Coded post low k → KeysHold (widened o post) (min l low) (max g k)
+unfolding KeysHold Coded
 step None l g Void low k h c = (omega (arith, h.0, c.0), omega (arith, h.1, c.1))
 step (Some e) l g Void low k h c =
     let least : min l low ≡ l = omega (arith, h.1.1.0, c.0) in
@@ -82,23 +82,23 @@ min_assoc x y z = omega arith
 max_assoc : (x y z : ℕ) → max (max x y) z ≡ max x (max y z)
 max_assoc x y z = omega arith
 
-least_end : (o : Option Extremes) (l g : ℕ) → Holds o l g → min l 65535 ≡ l
-unfolding Holds
+least_end : (o : Option Extremes) (l g : ℕ) → KeysHold o l g → min l 65535 ≡ l
+unfolding KeysHold
 least_end None l g h = omega (arith, h.0)
 least_end (Some e) l g h = omega (arith, h.1.1.0)
 
 greatest_end : (g : ℕ) → max g 0 ≡ g
 greatest_end g = omega arith
 
-over : (ws : List ℕ) (o : Option Extremes) (l g : ℕ) → AreHeights ws → Holds o l g → Holds (fold widened o (map post_of ws)) (min l (least_of (map low_key ws))) (max g (greatest_of (map key ws)))
-over [] o l g all h = subst (λ n. Holds o n (max g 0)) (sym (least_end o l g h)) (subst (λ n. Holds o l n) (sym (greatest_end g)) h)
+over : (ws : List ℕ) (o : Option Extremes) (l g : ℕ) → AreHeights ws → KeysHold o l g → KeysHold (fold widened o (map post_of ws)) (min l (least_of (map low_key ws))) (max g (greatest_of (map key ws)))
+over [] o l g all h = subst (λ n. KeysHold o n (max g 0)) (sym (least_end o l g h)) (subst (λ n. KeysHold o l n) (sym (greatest_end g)) h)
 over (w ∷ ws) o l g all h =
     let next = over ws (widened o (post_of w)) (min l (low_key w)) (max g (key w)) all.1.1 (step o l g (post_of w) (low_key w) (key w) h (coded w all.0 all.1.0)) in
-    subst (λ n. Holds (fold widened o (map post_of (w ∷ ws))) n (max g (greatest_of (map key (w ∷ ws))))) (min_assoc l (low_key w) (least_of (map low_key ws)))
-    (subst (λ n. Holds (fold widened o (map post_of (w ∷ ws))) (min (min l (low_key w)) (least_of (map low_key ws))) n) (max_assoc g (key w) (greatest_of (map key ws))) next)
+    subst (λ n. KeysHold (fold widened o (map post_of (w ∷ ws))) n (max g (greatest_of (map key (w ∷ ws))))) (min_assoc l (low_key w) (least_of (map low_key ws)))
+    (subst (λ n. KeysHold (fold widened o (map post_of (w ∷ ws))) (min (min l (low_key w)) (least_of (map low_key ws))) n) (max_assoc g (key w) (greatest_of (map key ws))) next)
 
-from_keys : (o : Option Extremes) (l g : ℕ) → Holds o l g → o ≡ extremes_from l g
-unfolding Holds
+from_keys : (o : Option Extremes) (l g : ℕ) → KeysHold o l g → o ≡ extremes_from l g
+unfolding KeysHold
 from_keys None l g h = ap (λ b. cond b None (Some (record { least = pos l -ℤ pos 32768; greatest = pos g -ℤ pos 32768 }))) (sym (eq-eqb l 65535 h.0))
 from_keys (Some e) l g h =
     let least : e.least ≡ pos l -ℤ pos 32768 = omega (arith, ints, h.0) in
@@ -107,8 +107,8 @@ from_keys (Some e) l g h =
     ap₂ (λ x y. Some (record { least = x; greatest = y })) least greatest
     ∙ ap (λ b. cond b None (Some (record { least = pos l -ℤ pos 32768; greatest = pos g -ℤ pos 32768 }))) (sym (ne_eqb l 65535 not_top))
 
-start : Holds None 65535 0
-unfolding Holds
+start : KeysHold None 65535 0
+unfolding KeysHold
 start = (refl, omega arith)
 
 least_top : (ws : List ℕ) → least_of ws ≤ 65535

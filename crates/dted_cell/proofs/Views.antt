@@ -2,7 +2,7 @@
 use Rattle.std.proofs.Common.{◌≡◌, ℕ, ◌+◌, ◌-◌, ◌*◌, ◌<◌, ◌≤◌, List, None, length, drop, slice_index, slice_range, refl, sym, ◌∙◌, ap, arith, get_or-take, get_or-drop}
 use Rattle.std.proofs.Math.Nat.{mul-le-mul_right}
 use Rattle.dted_cell.specs.Field.{word_at}
-use Rattle.dted_cell.specs.Lead.{lead_of, text_of}
+use Rattle.dted_cell.specs.Lead.{lead_of, text_behind_lead}
 use Rattle.dted_cell.specs.Elevation.{post_of}
 use Rattle.dted_cell.specs.Record.{record_at, elevation_at}
 use Rattle.dted_cell.specs.Refusal.{refusal_of}
@@ -32,7 +32,7 @@ module _ (bytes value : List ℕ) (header : Header) (good : IsGood bytes header)
   pub view_accepted : refusal_of value ≡ None
   view_accepted = sym (ap refusal_of same) ∙ good.accepted
 
-  pub view_long : record_at (rows_in value) (columns_in value) ≤ length (text_of value)
+  pub view_long : record_at (rows_in value) (columns_in value) ≤ length (text_behind_lead value)
   unfolding columns_in rows_in
   view_long = (cell_by value (sym (ap refusal_of same) ∙ good.accepted)).long_enough
 
@@ -63,13 +63,13 @@ row_within text rows col row h =
 
 pub profile_post : (bytes : List ℕ) (col row : ℕ) → row < rows_in bytes → post_of_row (profile_in bytes col) row ≡ post_in bytes col row
 unfolding profile_in post_in
-profile_post bytes col row h = ap post_of (row_within (text_of bytes) (rows_in bytes) col row h)
+profile_post bytes col row h = ap post_of (row_within (text_behind_lead bytes) (rows_in bytes) col row h)
 
-pub profile_is : (bytes text : List ℕ) (start rows col : ℕ) → text ≡ text_of bytes → rows ≡ rows_in bytes → start ≡ record_at rows col → slice_range text (start + 8) (start + 8 + 2 * rows) ≡ profile_in bytes col
+pub profile_is : (bytes text : List ℕ) (start rows col : ℕ) → text ≡ text_behind_lead bytes → rows ≡ rows_in bytes → start ≡ record_at rows col → slice_range text (start + 8) (start + 8 + 2 * rows) ≡ profile_in bytes col
 unfolding profile_in
 profile_is bytes text start rows col t r s =
     let zeroth : elevation_at rows col 0 ≡ record_at rows col + 8 = omega arith in
-    rw (t, s) (ap (λ n. slice_range (text_of bytes) n (elevation_at rows col rows)) (sym zeroth) ∙ ap (λ n. slice_range (text_of bytes) (elevation_at n col 0) (elevation_at n col n)) r)
+    rw (t, s) (ap (λ n. slice_range (text_behind_lead bytes) n (elevation_at rows col rows)) (sym zeroth) ∙ ap (λ n. slice_range (text_behind_lead bytes) (elevation_at n col 0) (elevation_at n col n)) r)
 
 pub start_fits : (text : List ℕ) (start rows columns col : ℕ) → record_at rows columns ≤ length text → col < columns → start ≡ record_at rows col → start + 8 + 2 * rows ≤ length text
 start_fits text start rows columns col long h s = omega (arith, profile_fits (length text) rows columns col long h)

@@ -9,7 +9,7 @@ use Rattle.terrain_base.specs.declared.level.CellLevel.{CellLevel}
 use Rattle.terrain_base.specs.declared.post.Post.{Post}
 use Rattle.terrain_base.specs.declared.post.Post.TheVariants.{Void}
 use Rattle.dted_cell.specs.declared.refusal.CellRefusal.{CellRefusal}
-use Rattle.dted_cell.specs.Lead.{lead_of, text_of}
+use Rattle.dted_cell.specs.Lead.{lead_of, text_behind_lead}
 use Rattle.dted_cell.specs.Record.{record_at}
 use Rattle.dted_cell.specs.Refusal.{first_of, IsFirst, is_shorter, header_conditions, record_conditions, data_conditions, refusal_of}
 use Rattle.dted_cell.specs.Cell.{HasPosts, IsCell, IsSomeCell, square_in, level_in, columns_in, rows_in, post_in, column_in, posts_in}
@@ -19,16 +19,16 @@ use Rattle.dted_cell.proofs.RecordLaws.{record_by, by_record}
 use Rattle.dted_cell.proofs.Stands.{neither, not_when, none_of_all, none_by_flat}
 
 -- ---- lengths
-long_by : (bytes : List ℕ) (n : ℕ) → is_shorter bytes n ≡ false → n ≤ length (text_of bytes)
-unfolding text_of
+long_by : (bytes : List ℕ) (n : ℕ) → is_shorter bytes n ≡ false → n ≤ length (text_behind_lead bytes)
+unfolding text_behind_lead
 long_by bytes n e = omega (arith, ltb-false (length bytes) (lead_of bytes + n) e, length-drop (lead_of bytes) bytes)
 
-by_long : (bytes : List ℕ) (n : ℕ) → n ≤ length (text_of bytes) → 0 < n → is_shorter bytes n ≡ false
-unfolding text_of
+by_long : (bytes : List ℕ) (n : ℕ) → n ≤ length (text_behind_lead bytes) → 0 < n → is_shorter bytes n ≡ false
+unfolding text_behind_lead
 by_long bytes n h p = le-ltb (length bytes) (lead_of bytes + n) (omega (arith, length-drop (lead_of bytes) bytes))
 
 -- ---- the posts
-posts_there : (bytes : List ℕ) → HasPosts (text_of bytes) (columns_in bytes) (rows_in bytes) (posts_in bytes)
+posts_there : (bytes : List ℕ) → HasPosts (text_behind_lead bytes) (columns_in bytes) (rows_in bytes) (posts_in bytes)
 unfolding posts_in post_in
 posts_there bytes =
     let column : (col : ℕ) → col < columns_in bytes → get_or (posts_in bytes) col [] ≡ column_in bytes col =
@@ -39,7 +39,7 @@ posts_there bytes =
       each = λ col row h k. ap (λ (c : List Post). get_or c row Void) (column col h) ∙ get_or-map-range_with_len (post_in bytes col) 0 (rows_in bytes) row row Void k (omega arith);
     }
 
-posts_only : (bytes : List ℕ) (posts : List (List Post)) → HasPosts (text_of bytes) (columns_in bytes) (rows_in bytes) posts → posts ≡ posts_in bytes
+posts_only : (bytes : List ℕ) (posts : List (List Post)) → HasPosts (text_behind_lead bytes) (columns_in bytes) (rows_in bytes) posts → posts ≡ posts_in bytes
 unfolding posts_in post_in
 posts_only bytes posts has =
     fill_by_all (column_in bytes) posts (columns_in bytes) [] has.column_count
@@ -53,9 +53,9 @@ cell_by bytes e =
     let header = neither _ _ parts.0 in
     let tail = neither _ _ parts.1 in
     record {
-      header = header_by (text_of bytes) header.1;
+      header = header_by (text_behind_lead bytes) header.1;
       long_enough = long_by bytes (record_at (rows_in bytes) (columns_in bytes)) (not_when _ _ tail.0);
-      records = λ col h. record_by (text_of bytes) (rows_in bytes) col (none_of_all (record_conditions (text_of bytes) (rows_in bytes)) (columns_in bytes) col tail.1 h);
+      records = λ col h. record_by (text_behind_lead bytes) (rows_in bytes) col (none_of_all (record_conditions (text_behind_lead bytes) (rows_in bytes)) (columns_in bytes) col tail.1 h);
       at_places = posts_there bytes;
     }
 
@@ -65,8 +65,8 @@ here bytes posts cell =
     let long = cell.long_enough in
     let header_long : is_shorter bytes 3428 ≡ false = by_long bytes 3428 (omega arith) (omega arith) in
     let data_long : is_shorter bytes (record_at (rows_in bytes) (columns_in bytes)) ≡ false = by_long bytes _ long (omega arith) in
-    refusal_parts bytes ∙ rw (header_long, by_header (text_of bytes) (square_in bytes) (level_in bytes) cell.header, data_long)
-    (none_by_flat (record_conditions (text_of bytes) (rows_in bytes)) 0 (columns_in bytes) (λ col l u. by_record (text_of bytes) (rows_in bytes) col (cell.records col (omega arith))))
+    refusal_parts bytes ∙ rw (header_long, by_header (text_behind_lead bytes) (square_in bytes) (level_in bytes) cell.header, data_long)
+    (none_by_flat (record_conditions (text_behind_lead bytes) (rows_in bytes)) 0 (columns_in bytes) (λ col l u. by_record (text_behind_lead bytes) (rows_in bytes) col (cell.records col (omega arith))))
 
 posts_here : (bytes : List ℕ) (posts : List (List Post)) → IsCell bytes (square_in bytes) (level_in bytes) posts → posts ≡ posts_in bytes
 unfolding columns_in rows_in
@@ -82,8 +82,8 @@ pub record FoundCell (bytes : List ℕ) (square : Square) (level : CellLevel) (p
 pub by_cell : (bytes : List ℕ) (square : Square) (level : CellLevel) (posts : List (List Post)) → IsCell bytes square level posts → FoundCell bytes square level posts
 unfolding square_in level_in
 by_cell bytes square level posts cell =
-    let square_is : square ≡ square_in bytes = square_here (text_of bytes) square level cell.header in
-    let level_is : level ≡ level_in bytes = by_level (text_of bytes) square level cell.header in
+    let square_is : square ≡ square_in bytes = square_here (text_behind_lead bytes) square level cell.header in
+    let level_is : level ≡ level_in bytes = by_level (text_behind_lead bytes) square level cell.header in
     let moved = subst (λ l. IsCell bytes (square_in bytes) l posts) level_is (subst (λ s. IsCell bytes s level posts) square_is cell) in
     record { accepted = here bytes posts moved; square_is = square_is; level_is = level_is; posts_are = posts_here bytes posts moved }
 

@@ -33,7 +33,7 @@ use Rattle.terrain_base.specs.declared.post.Post.TheVariants.{Void, Metres}
 use Rattle.terrain_base.specs.declared.post.Extremes.{Extremes}
 use Rattle.terrain_base.specs.Level.{rows_of, columns_of}
 use Rattle.dted_cell.specs.Field.{word_at}
-use Rattle.dted_cell.specs.Lead.{text_of}
+use Rattle.dted_cell.specs.Lead.{text_behind_lead}
 use Rattle.dted_cell.specs.Elevation.{post_of, IsElevation}
 use Rattle.dted_cell.specs.Header.{square_at, level_at, IsHeader}
 use Rattle.dted_cell.specs.Record.{record_at, elevation_at, IsRecord}
@@ -50,10 +50,10 @@ pub record HasPosts (text : List ℕ) (columns rows : ℕ) (posts : List (List P
 -- the file is the cell of this square, of this level, with these posts by column and row
 pub record IsCell
     (bytes : List ℕ) (square : Square) (level : CellLevel) (posts : List (List Post)) : Type 0 where
-  pub header : IsHeader (text_of bytes) square level
-  pub long_enough : record_at (rows_of level) (columns_of square level) ≤ length (text_of bytes)
-  pub records : (col : ℕ) → col < columns_of square level → IsRecord (text_of bytes) (rows_of level) col
-  pub at_places : HasPosts (text_of bytes) (columns_of square level) (rows_of level) posts
+  pub header : IsHeader (text_behind_lead bytes) square level
+  pub long_enough : record_at (rows_of level) (columns_of square level) ≤ length (text_behind_lead bytes)
+  pub records : (col : ℕ) → col < columns_of square level → IsRecord (text_behind_lead bytes) (rows_of level) col
+  pub at_places : HasPosts (text_behind_lead bytes) (columns_of square level) (rows_of level) posts
 
 -- the file is a cell
 abbrev pub IsSomeCell : List ℕ → Type 0
@@ -63,10 +63,10 @@ IsSomeCell bytes =
 -- ---- what is read
 
 unfoldable pub square_in : List ℕ → Square
-square_in bytes = square_at (text_of bytes)
+square_in bytes = square_at (text_behind_lead bytes)
 
 unfoldable pub level_in : List ℕ → CellLevel
-level_in bytes = level_at (text_of bytes)
+level_in bytes = level_at (text_behind_lead bytes)
 
 unfoldable pub columns_in : List ℕ → ℕ
 columns_in bytes = columns_of (square_in bytes) (level_in bytes)
@@ -76,13 +76,13 @@ rows_in bytes = rows_of (level_in bytes)
 
 -- the post of a column and a row
 unfoldable pub post_in : List ℕ → ℕ → ℕ → Post
-post_in bytes col row = post_of (word_at (text_of bytes) (elevation_at (rows_in bytes) col row))
+post_in bytes col row = post_of (word_at (text_behind_lead bytes) (elevation_at (rows_in bytes) col row))
 
 -- the elevations of a column, two bytes each, as they stand
 unfoldable pub profile_in : List ℕ → ℕ → List ℕ
 profile_in bytes col =
     let rows = rows_in bytes in
-    slice_range (text_of bytes) (elevation_at rows col 0) (elevation_at rows col rows)
+    slice_range (text_behind_lead bytes) (elevation_at rows col 0) (elevation_at rows col rows)
 
 -- the post of a row in a column's elevations
 abbrev pub post_of_row : List ℕ → ℕ → Post

@@ -36,5 +36,5 @@ unfoldable pub lead_of : List ℕ → ℕ
 lead_of bytes = 80 * prefix_len (is_label bytes) (range_with_len 0 4)
 
 -- what follows the lead: the text of the cell, whose offsets count from here
-unfoldable pub text_of : List ℕ → List ℕ
-text_of bytes = drop (lead_of bytes) bytes
+unfoldable pub text_behind_lead : List ℕ → List ℕ
+text_behind_lead bytes = drop (lead_of bytes) bytes

@@ -49,7 +49,7 @@ use Rattle.dted_cell.specs.declared.refusal.CellRefusal.TheVariants.{
   HeightOutOfRange,
 }
 use Rattle.dted_cell.specs.Field.{number_at, is_number, spells, word_at}
-use Rattle.dted_cell.specs.Lead.{lead_of, text_of}
+use Rattle.dted_cell.specs.Lead.{lead_of, text_behind_lead}
 use Rattle.dted_cell.specs.Elevation.{signed_of, is_out_of_range}
 use Rattle.dted_cell.specs.Header.{
   east,
@@ -156,7 +156,7 @@ text_conditions text =
 unfoldable pub header_conditions : List ℕ → List (Option CellRefusal)
 header_conditions bytes =
     (TooShort (lead_of bytes + 3428) (length bytes) when is_shorter bytes 3428) ∷
-    text_conditions (text_of bytes)
+    text_conditions (text_behind_lead bytes)
 
 -- ---- the data's conditions
 
@@ -180,7 +180,7 @@ unfoldable pub data_conditions : List ℕ → ℕ → ℕ → List (Option CellR
 data_conditions bytes columns rows =
     (TooShort (lead_of bytes + record_at rows columns) (length bytes) when
     is_shorter bytes (record_at rows columns)) ∷
-    flat_map (record_conditions (text_of bytes) rows) (range_with_len 0 columns)
+    flat_map (record_conditions (text_behind_lead bytes) rows) (range_with_len 0 columns)
 
 -- ---- all of them, in order
 

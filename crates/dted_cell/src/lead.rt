@@ -1,7 +1,7 @@
 // The tape labels before a cell's header.
 ghost use Rattle.std.specs.Prelude.{◌≡◌, ◌+◌, ◌*◌, ◌<◌, ◌≤◌, length};
 ghost use Rattle.std.specs.List.{prefix_len, range_with_len};
-ghost use Rattle.dted_cell.specs.Lead.{is_label, lead_of, text_of};
+ghost use Rattle.dted_cell.specs.Lead.{is_label, lead_of, text_behind_lead};
 
 use crate::field::has_word;
 
@@ -33,11 +33,11 @@ pub(crate) fn lead(bytes: &[u8]) -> usize
 }
 
 // What follows the lead.
-#[tactic(auto, unfolding(crate::specs::Lead::text_of))]
+#[tactic(auto, unfolding(crate::specs::Lead::text_behind_lead))]
 pub(crate) fn behind(bytes: &[u8], lead: usize) -> &[u8]
     requires is_lead { lead ≡ lead_of bytes.now }
     requires within { lead ≤ length bytes.now }
-    ensures text { result.now ≡ text_of bytes.now }
+    ensures text { result.now ≡ text_behind_lead bytes.now }
     ensures length { length result.now + lead ≡ length bytes.now }
 {
     &bytes[lead..]

@@ -1,7 +1,7 @@
 // A cell, read where its bytes lie.
 ghost use Rattle.std.specs.Prelude.{◌≡◌, ℕ, ◌+◌, ◌*◌, ◌^◌, ◌<◌, ◌≤◌, ◌↔◌, length, IfOk, IsOk, OnOk, IfSome, IsNone, None};
 ghost use Rattle.std.specs.Result.{result_err};
-ghost use Rattle.dted_cell.specs.Lead.{text_of};
+ghost use Rattle.dted_cell.specs.Lead.{text_behind_lead};
 ghost use Rattle.dted_cell.specs.Record.{record_at};
 ghost use Rattle.dted_cell.specs.Cell.{
   IsCell,
@@ -127,7 +127,7 @@ impl<'a> CellView<'a> {
     #[tactic(auto, using(crate::proofs::Views::view_lead, crate::proofs::Views::view_long, crate::proofs::Views::view_accepted, crate::proofs::Leads::lead_within))]
     fn text(&self) -> &'a [u8]
         ensures accepted { refusal_of self.now ≡ None }
-        ensures text { result.now ≡ text_of self.now }
+        ensures text { result.now ≡ text_behind_lead self.now }
         ensures long { record_at (rows_in self.now) (columns_in self.now) ≤ length result.now }
     {
         behind(self.bytes, self.header.lead)

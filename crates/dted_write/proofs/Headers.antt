@@ -10,7 +10,7 @@ use Rattle.terrain_base.specs.declared.level.CellLevel.{CellLevel}
 use Rattle.terrain_base.specs.declared.level.CellLevel.TheVariants.{Zero, One, Two}
 use Rattle.terrain_base.specs.Level.{degrees_from_equator, factor_at, lat_step_of, lon_step_of, rows_of, columns_of}
 use Rattle.dted_cell.specs.Field.{number_of, spells, Spells}
-use Rattle.dted_cell.specs.Lead.{is_label, lead_of, text_of}
+use Rattle.dted_cell.specs.Lead.{is_label, lead_of, text_behind_lead}
 use Rattle.dted_cell.specs.Header.{series_of, IsAngle, IsLongitude, IsLatitude, IsHeader}
 use Rattle.dted_cell.proofs.Numbers.{number_whole}
 use Rattle.dted_write.specs.Header.{three_digits, four_digits, degrees_of_lon, letter_of_lon, degrees_of_lat, letter_of_lat, user_label, data_set, accuracy, header_text}
@@ -37,8 +37,8 @@ no_label : (rest : List ℕ) → is_label (85 ∷ rest) 0 ≡ false
 unfolding spells
 no_label rest = never _
 
-pub no_lead : (rest : List ℕ) → text_of (85 ∷ rest) ≡ 85 ∷ rest
-unfolding text_of lead_of
+pub no_lead : (rest : List ℕ) → text_behind_lead (85 ∷ rest) ≡ 85 ∷ rest
+unfolding text_behind_lead lead_of
 no_lead rest = rw (no_label rest) refl
 
 -- ---- how large the numbers are

@@ -12,7 +12,7 @@ use Rattle.terrain_base.specs.declared.post.Post.TheVariants.{Void, Metres}
 use Rattle.terrain_base.specs.Height.{IsHeight}
 use Rattle.terrain_base.specs.Level.{lon_step_of, rows_of, columns_of}
 use Rattle.dted_cell.specs.Field.{word_at, long_at}
-use Rattle.dted_cell.specs.Lead.{text_of}
+use Rattle.dted_cell.specs.Lead.{text_behind_lead}
 use Rattle.dted_cell.specs.Elevation.{IsElevation, post_of}
 use Rattle.dted_cell.specs.Header.{IsHeader}
 use Rattle.dted_cell.specs.Record.{record_at, elevation_at, plain_sum, IsRecord}
@@ -117,7 +117,7 @@ rows_few Two = omega arith
 columns_few : (step : ℕ) → 1 ≤ step → 3600 / step + 1 ≤ 65536
 columns_few step h = omega (arith, h)
 
-text_here : (square : Square) (level : CellLevel) (rest : List ℕ) → text_of (header_text square level ++ rest) ≡ header_text square level ++ rest
+text_here : (square : Square) (level : CellLevel) (rest : List ℕ) → text_behind_lead (header_text square level ++ rest) ≡ header_text square level ++ rest
 unfolding header_text user_label
 text_here square level rest = no_lead _
 
@@ -130,7 +130,7 @@ written square level post good =
     let head = header_text square level in
     let rest = flat_map (record_from post rows) (range_with_len 0 columns) in
     let text = head ++ rest in
-    let here : text_of text ≡ text = text_here square level rest in
+    let here : text_behind_lead text ≡ text = text_here square level rest in
     let part : (col : ℕ) → col < columns → Parted text (record_at rows col) (record_from post rows col) =
     λ col h.
     let number : 0 + col ≡ col = omega arith in

@@ -10,7 +10,7 @@ use Rattle.tms_tree.specs.Place.{IsPlace}
 use Rattle.whole_interval.specs.declared.interval.Interval.{Interval}
 use Rattle.whole_interval.specs.Fraction.{Fraction, plus, minus, times, negated, IsAtMost}
 use Rattle.polynomial.proofs.Signs.{weaken}
-use Rattle.whole_interval.specs.Interval.{Holds, add_of, sub_of, mul_of, div_pos_of, root_up_of, sqrt_of}
+use Rattle.whole_interval.specs.Interval.{IntervalHolds, add_of, sub_of, mul_of, div_pos_of, root_up_of, sqrt_of}
 use Rattle.whole_interval.specs.Sine.{IsSine, IsCosine, IsOctantSine, IsOctantCosine}
 use Rattle.whole_interval.specs.Sine.{IsTurnedSine, IsTurnedCosine, within_turn}
 use Rattle.whole_interval.specs.Sine.{quarter_turns, left_of_quarter}
@@ -66,14 +66,14 @@ times_positive x y p q =
     omega (arith, mul-le-mul a b)
 
 -- ---- the steps
-in_interval : (a : Interval) (f : Fraction) → IsInInterval a f → Holds a f
+in_interval : (a : Interval) (f : Fraction) → IsInInterval a f → IntervalHolds a f
 in_interval a f h = record { low = h.above; high = h.below }
 
-whole_holds : (n : ℤ) → Holds (whole_of n) (whole n)
+whole_holds : (n : ℤ) → IntervalHolds (whole_of n) (whole n)
 unfolding whole_of
 whole_holds n = record { low = omega (arith, ints); high = omega (arith, ints) }
 
-eccentricity_holds : Holds eccentricity_of eccentricity_squared
+eccentricity_holds : IntervalHolds eccentricity_of eccentricity_squared
 unfolding eccentricity_of
 eccentricity_holds =
     let scaled = eccentricity_squared.numerator *ℤ pos (2 ^ 48) in
@@ -81,21 +81,21 @@ eccentricity_holds =
     let p : pos 0 <ℤ d = omega (arith, ints) in
     record { low = (floor_is scaled d p).low; high = (ceil_is scaled d p).high }
 
-narrowing_holds : (sine : Interval) (s : Fraction) → Holds sine s → Holds (narrowing_of sine) (narrowing s)
+narrowing_holds : (sine : Interval) (s : Fraction) → IntervalHolds sine s → IntervalHolds (narrowing_of sine) (narrowing s)
 unfolding narrowing_of
 narrowing_holds sine s h = sub_holds (whole_of (pos 1)) (mul_of eccentricity_of (mul_of sine sine))
     (whole (pos 1)) (times eccentricity_squared (square s)) (whole_holds (pos 1))
     (mul_holds eccentricity_of (mul_of sine sine) eccentricity_squared (square s) eccentricity_holds
     (mul_holds sine sine s s h h))
 
-from_axis_holds : (radii : Interval) (metres : ℤ) (cosine : Interval) (n c : Fraction) → Holds radii n
-    → Holds cosine c → Holds (from_axis_of radii metres cosine) (times (plus n (whole metres)) c)
+from_axis_holds : (radii : Interval) (metres : ℤ) (cosine : Interval) (n c : Fraction) → IntervalHolds radii n
+    → IntervalHolds cosine c → IntervalHolds (from_axis_of radii metres cosine) (times (plus n (whole metres)) c)
 unfolding from_axis_of
 from_axis_holds radii metres cosine n c h k = mul_holds (add_of radii (whole_of metres)) cosine
     (plus n (whole metres)) c (add_holds radii (whole_of metres) n (whole metres) h (whole_holds metres)) k
 
-along_axis_holds : (radii : Interval) (metres : ℤ) (sine : Interval) (n s : Fraction) → Holds radii n
-    → Holds sine s → Holds (along_axis_of radii metres sine) (z_at n (whole metres) s)
+along_axis_holds : (radii : Interval) (metres : ℤ) (sine : Interval) (n s : Fraction) → IntervalHolds radii n
+    → IntervalHolds sine s → IntervalHolds (along_axis_of radii metres sine) (z_at n (whole metres) s)
 unfolding along_axis_of
 along_axis_holds radii metres sine n s h k =
     let flat = sub_of (whole_of (pos 1)) eccentricity_of in
@@ -106,7 +106,7 @@ along_axis_holds radii metres sine n s h k =
     mul_holds (add_of (mul_of radii flat) (whole_of metres)) sine (plus (times n flat_at) (whole metres)) s
     (add_holds (mul_of radii flat) (whole_of metres) (times n flat_at) (whole metres) short (whole_holds metres)) k
 
-ends_hold : (a : Interval) (f : Fraction) → 0 < f.denominator → Holds a f → IsInEnds (down_of a.lo) (up_of a.hi) f
+ends_hold : (a : Interval) (f : Fraction) → 0 < f.denominator → IntervalHolds a f → IsInEnds (down_of a.lo) (up_of a.hi) f
 ends_hold a f p h = record {
   positive = p;
   above = down_low a.lo f.numerator f.denominator h.low;
@@ -160,11 +160,11 @@ from_nought u (negsuc v) d k p h =
     let up : (pos 0 *ℤ pos d) ≤ℤ (u *ℤ pos d) = mul_mono d (pos 0) u p in
     absurd (omega (arith, ints, up, h, mul_mono (suc k) (negsuc v) (negsuc 0) (omega (arith, ints))))
 
-narrowing_from_nought : (u : Interval) (f : Fraction) → IsNarrowing u → Holds u f → pos 0 ≤ℤ f.numerator
+narrowing_from_nought : (u : Interval) (f : Fraction) → IsNarrowing u → IntervalHolds u f → pos 0 ≤ℤ f.numerator
 narrowing_from_nought u f b h = from_nought u.lo f.numerator f.denominator (2 ^ 48 - 1)
     (omega (arith, ints, b.low)) h.low
 
-pub radii_low : (sine : Interval) (s : Fraction) → IsInside (9 * 2 ^ 45) sine → Holds sine s
+pub radii_low : (sine : Interval) (s : Fraction) → IsInside (9 * 2 ^ 45) sine → IntervalHolds sine s
     → IsAtMost (times (square (record { numerator = (radii_of sine).lo; denominator = 2 ^ 48 })) (narrowing s))
     (square (whole (pos semi_major_axis)))
 unfolding radii_of div_pos_of whole_of sqrt_of
@@ -182,7 +182,7 @@ radii_low sine s i h =
     (narrowing_from_nought u (narrowing s) b k) (floor_is axis (pos w) above).low
     (root_up_is (unsigned_abs u.hi * 2 ^ 48)) k.high
 
-pub radii_high : (sine : Interval) (s : Fraction) → IsInside (9 * 2 ^ 45) sine → Holds sine s
+pub radii_high : (sine : Interval) (s : Fraction) → IsInside (9 * 2 ^ 45) sine → IntervalHolds sine s
     → IsAtMost (square (whole (pos semi_major_axis)))
     (times (square (record { numerator = (radii_of sine).hi; denominator = 2 ^ 48 })) (narrowing s))
 unfolding radii_of div_pos_of whole_of sqrt_of
@@ -203,28 +203,28 @@ radii_high sine s i h =
 
 -- ---- the place's angles
 latitude_sine : (place : Place) → IsPlace place → (s : Fraction) → IsLatitudeSine place s
-    → (0 < s.denominator) × Holds (latitude_of place).sine s
+    → (0 < s.denominator) × IntervalHolds (latitude_of place).sine s
 unfolding latitude_of
 latitude_sine place p s h =
     let n = pos (2 * place.q) -ℤ pos place.d in
     (sine_positive n (2 * place.d) s h, sine_holds n (2 * place.d) s (omega (arith, p.positive)) h)
 
 latitude_cosine : (place : Place) → IsPlace place → (s : Fraction) → IsLatitudeCosine place s
-    → (0 < s.denominator) × Holds (latitude_of place).cosine s
+    → (0 < s.denominator) × IntervalHolds (latitude_of place).cosine s
 unfolding latitude_of
 latitude_cosine place p s h =
     let n = pos (2 * place.q) -ℤ pos place.d in
     (cosine_positive n (2 * place.d) s h, cosine_holds n (2 * place.d) s (omega (arith, p.positive)) h)
 
 longitude_sine : (place : Place) → IsPlace place → (s : Fraction) → IsLongitudeSine place s
-    → (0 < s.denominator) × Holds (longitude_of place).sine s
+    → (0 < s.denominator) × IntervalHolds (longitude_of place).sine s
 unfolding longitude_of
 longitude_sine place p s h =
     let n = pos place.p -ℤ pos place.d in
     (sine_positive n place.d s h, sine_holds n place.d s p.positive h)
 
 longitude_cosine : (place : Place) → IsPlace place → (s : Fraction) → IsLongitudeCosine place s
-    → (0 < s.denominator) × Holds (longitude_of place).cosine s
+    → (0 < s.denominator) × IntervalHolds (longitude_of place).cosine s
 unfolding longitude_of
 longitude_cosine place p s h =
     let n = pos place.p -ℤ pos place.d in

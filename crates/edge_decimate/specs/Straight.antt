@@ -1,7 +1,7 @@
 -- How far a height of an edge lies from a straight line between two others: lengths along the edge are those
 -- of the tile, of which an edge has 32767 (quantized-mesh-1.0, u and v).
 use Rattle.std.specs.Prelude.{ℕ, zero, suc, ◌-◌, ℤ, pos, ◌+ℤ◌, ◌-ℤ◌, ◌*ℤ◌, ◌≤ℤ◌, unsigned_abs, int_le, ◌&&◌, Bool, true, List, slice_index_or}
-use Rattle.terrain_base.specs.Grid.{line_of}
+use Rattle.terrain_base.specs.Grid.{line_position}
 
 -- the height at an index of the line, in metres
 abbrev pub height_at : List ℤ → ℕ → ℤ
@@ -9,7 +9,7 @@ height_at line i = slice_index_or line i (pos 0)
 
 -- the length from one grid line to another, in tile units
 abbrev pub length_of : ℕ → ℕ → ℤ
-length_of a b = pos (line_of b) -ℤ pos (line_of a)
+length_of a b = pos (line_position b) -ℤ pos (line_position a)
 
 -- how far the height at i lies above the straight line from the height at a to that at b, times the length
 -- from a to b

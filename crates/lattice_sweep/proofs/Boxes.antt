@@ -6,7 +6,7 @@ use Rattle.std.proofs.lemmas.Int.{ints, clamps}
 use Rattle.terrain_base.specs.declared.cell_key.CellKey.{CellKey}
 use Rattle.cell_mosaic.specs.Cells.{Cells, Shapes}
 use Rattle.mesh_plane.specs.declared.corner.Tri.{Tri}
-use Rattle.mesh_plane.specs.Plane.{Holds, point}
+use Rattle.mesh_plane.specs.Plane.{TriangleHolds, point}
 use Rattle.mesh_plane.specs.SurfaceLaw.{IsTriIn}
 use Rattle.mesh_plane.specs.Fan.{Rect, grown, InRect}
 use Rattle.mesh_plane.proofs.SurfaceLaws.{surface_law}
@@ -44,7 +44,7 @@ in_box t =
       c = record { west = w.2; south = s.2; east = e.2; north = n.2 };
     }
 
-held_in : (t : Tri) (u v : ℤ) → IsTerrainTri t → Holds (pos 10125) u v t → InRect (grown (pos 10125) (box_of t)) (point u v)
+held_in : (t : Tri) (u v : ℤ) → IsTerrainTri t → TriangleHolds (pos 10125) u v t → InRect (grown (pos 10125) (box_of t)) (point u v)
 held_in t u v is h = surface_law.box (box_of t) t (pos 10125) u v is.counter_clockwise (in_box t) h
 
 pub side_cut : (a b : Axis) (low high : ℤ) → IsOnSide a → IsCut a low high b → IsAxis b → IsOnSide b

@@ -8,7 +8,7 @@ use Rattle.polynomial.proofs.NormalForm.{by_ring}
 use Rattle.polynomial.proofs.Signs.{times_nonneg}
 use Rattle.mesh_plane.specs.declared.corner.Corner.{Corner}
 use Rattle.mesh_plane.specs.declared.corner.Tri.{Tri}
-use Rattle.mesh_plane.specs.Plane.{side_of, Holds}
+use Rattle.mesh_plane.specs.Plane.{side_of, TriangleHolds}
 use Rattle.mesh_plane.specs.Surface.{lift_of}
 use Rattle.lattice_sweep.specs.declared.axis.Axis.{Axis}
 use Rattle.lattice_sweep.specs.Axis.{point_of, Has, IsOnSide}
@@ -149,7 +149,7 @@ module _ (t : Tri) (u : ℤ) (north by_ab by_bc by_ca : Axis) (v step ab bc ca a
   first_row : Has north north.from
   first_row = lowest north some
 
-  pub held_is : (i : ℕ) → Has by_ca i ↔ (Has north i × Holds (pos 10125) u (point_of north i) t)
+  pub held_is : (i : ℕ) → Has by_ca i ↔ (Has north i × TriangleHolds (pos 10125) u (point_of north i) t)
   held_is i = (
     λ h.
         let third = (kept_ca i).0 h in

@@ -3,7 +3,7 @@ use Rattle.std.proofs.Common.{◌≡◌, ℕ, ◌+◌, sym, ap, ◌∙◌, subst
 use Rattle.std.specs.Prelude.{ℤ, pos, ◌+ℤ◌, ◌-ℤ◌, ◌*ℤ◌, ◌≤ℤ◌}
 use Rattle.std.specs.Int.{int_min}
 use Rattle.mesh_plane.specs.declared.corner.Tri.{Tri}
-use Rattle.mesh_plane.specs.Plane.{Holds}
+use Rattle.mesh_plane.specs.Plane.{TriangleHolds}
 use Rattle.mesh_plane.specs.Surface.{lift_of, gap_under}
 use Rattle.mesh_plane.proofs.SurfaceLaws.{surface_law}
 use Rattle.lattice_sweep.specs.declared.axis.Axis.{Axis}
@@ -21,7 +21,7 @@ next_lift t u north row step lift rise on has next step_is up is =
     ∙ ap (λ (z : ℤ). lift_of t (pos 10125) u z) (sym (next_point north row step on has next step_is))
 
 -- a lift where the triangle holds the point is within the heights
-pub lift_there : (t : Tri) (u v lift : ℤ) → IsTerrainTri t → Holds (pos 10125) u v t → lift ≡ lift_of t (pos 10125) u v → IsLift t u v lift
+pub lift_there : (t : Tri) (u v lift : ℤ) → IsTerrainTri t → TriangleHolds (pos 10125) u v t → lift ≡ lift_of t (pos 10125) u v → IsLift t u v lift
 lift_there t u v lift is held value =
     let b = surface_law.between t (pos 10125) u v (pos 0 -ℤ pos 16000) (pos 16000) is.heights held in record {
       held = held;

@@ -7,7 +7,7 @@ use Rattle.terrain_base.specs.declared.post.Post.{Post}
 use Rattle.terrain_base.specs.declared.post.Post.TheVariants.{Void, Metres}
 use Rattle.cell_mosaic.specs.Cells.{Cells, post_at}
 use Rattle.mesh_plane.specs.declared.corner.Tri.{Tri}
-use Rattle.mesh_plane.specs.Plane.{IsTilePoint, Holds}
+use Rattle.mesh_plane.specs.Plane.{IsTilePoint, TriangleHolds}
 use Rattle.mesh_plane.specs.Surface.{lift_of, gap_over, gap_under}
 use Rattle.lattice_sweep.specs.declared.axis.Axis.{Axis}
 use Rattle.lattice_sweep.specs.Plane.{IsLift}
@@ -38,7 +38,7 @@ module _ (cells : Cells) (key : CellKey) (col : ℕ) (t : Tri) (u : ℤ) (north 
       r s
 
   -- those of some rows that are all that the triangle holds
-  module _ (rows : Axis) (held : (i : ℕ) → Has rows i ↔ (Has north i × Holds (pos 10125) u (point_of north i) t)) where
+  module _ (rows : Axis) (held : (i : ℕ) → Has rows i ↔ (Has north i × TriangleHolds (pos 10125) u (point_of north i) t)) where
     -- none before the first of them
     pub no_row : (n : ℕ) → InColumn cells key col t u north rows.from n → ⊥
     no_row n i = let has = (held i.row).1 (i.has, i.here.held) in omega (arith, has.from, i.before)

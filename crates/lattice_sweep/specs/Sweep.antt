@@ -4,7 +4,7 @@ use Rattle.terrain_base.specs.declared.cell_key.CellKey.{CellKey}
 use Rattle.terrain_base.specs.declared.post.Post.TheVariants.{Metres}
 use Rattle.cell_mosaic.specs.Cells.{Cells, Shapes, HasPost, post_at}
 use Rattle.mesh_plane.specs.declared.corner.Tri.{Tri}
-use Rattle.mesh_plane.specs.Plane.{Holds}
+use Rattle.mesh_plane.specs.Plane.{TriangleHolds}
 use Rattle.mesh_plane.specs.Surface.{gap_over}
 use Rattle.lattice_sweep.specs.declared.axis.Axis.{Axis}
 use Rattle.lattice_sweep.specs.declared.window.Window.{Window}
@@ -25,7 +25,7 @@ pub record IsWindow (shapes : Shapes) (window : Window) : Type 0 where
 pub record HeldGap (cells : Cells) (key : CellKey) (col row : ℕ) (t : Tri) (u v : ℤ) (gap : ℕ) : Type 0 where
   pub metres : ℤ
   pub post : post_at cells key col row ≡ Metres metres
-  pub held : Holds (pos 10125) u v t
+  pub held : TriangleHolds (pos 10125) u v t
   pub size : pos gap ≡ gap_over t (pos 10125) u v metres
 
 -- a gap at one of the column's rows that stand before a row

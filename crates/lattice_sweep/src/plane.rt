@@ -1,11 +1,11 @@
 // Sides, lifts and gaps of a triangle of the tile at the scale 10125, in 64 bits.
 ghost use Rattle.std.specs.Prelude.{◌≡◌, ℤ, pos, ◌+ℤ◌, ◌-ℤ◌, ◌*ℤ◌, ◌≤ℤ◌, ◌<ℤ◌, ◌^◌, ◌*◌, ◌≤◌, unsigned_abs};
-ghost use Rattle.mesh_plane.specs.Plane.{side_of, doubled_area, Holds, IsOnTile, IsTileTri, IsTilePoint, IsCounterClockwise};
+ghost use Rattle.mesh_plane.specs.Plane.{side_of, doubled_area, TriangleHolds, IsOnTile, IsTileTri, IsTilePoint, IsCounterClockwise};
 ghost use Rattle.mesh_plane.specs.Surface.{lift_of, gap_over, gap_under};
 ghost use Rattle.std.specs.Int.{int_min};
 ghost use Rattle.terrain_base.specs.Height.{IsHeight};
 ghost use Rattle.terrain_base.specs.declared.post.Post.TheVariants.{Void, Metres};
-ghost use Rattle.cell_mosaic.specs.Cells.{IsPost};
+ghost use Rattle.dted_cell.specs.Elevation.{IsPost};
 ghost use Rattle.lattice_sweep.specs.Plane.{IsTerrainTri, HeldLift};
 
 use mesh_plane::{Corner, Tri};

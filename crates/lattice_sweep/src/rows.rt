@@ -1,6 +1,6 @@
 // The rows of one column that a triangle holds.
 ghost use Rattle.std.specs.Prelude.{◌↔◌, ℕ, ℤ, pos, ◌+ℤ◌, ◌-ℤ◌, ◌*ℤ◌, ◌≤ℤ◌, ◌^◌, ◌≤◌, ◌<◌, unsigned_abs};
-ghost use Rattle.mesh_plane.specs.Plane.{Holds};
+ghost use Rattle.mesh_plane.specs.Plane.{TriangleHolds};
 ghost use Rattle.lattice_sweep.specs.Axis.{point_of, Has, IsOnSide};
 ghost use Rattle.lattice_sweep.specs.Plane.{IsTerrainTri};
 
@@ -66,7 +66,7 @@ pub(crate) fn held(tri: &Tri, u: i64, north: &Axis) -> Axis
     requires east { u ≤ℤ pos 331765875 }
     requires north { IsOnSide north.now }
     requires some { north.now.from < north.now.to }
-    ensures { (i : ℕ) → Has result i ↔ (Has north.now i × Holds (pos 10125) u (point_of north.now i) tri.now) }
+    ensures { (i : ℕ) → Has result i ↔ (Has north.now i × TriangleHolds (pos 10125) u (point_of north.now i) tri.now) }
 {
     let base = north.from;
     let v = north.at(base);

@@ -2,7 +2,7 @@
 ghost use Rattle.std.specs.Prelude.{◌≡◌, ℕ, ℤ, pos, ◌*ℤ◌, ◌≤ℤ◌, ◌↔◌, ◌<◌, Some, IfOk};
 ghost use Rattle.cell_mosaic.specs.Cells.{Cells};
 ghost use Rattle.cell_mosaic.specs.Source.{Leaves};
-ghost use Rattle.mesh_plane.specs.Plane.{Holds};
+ghost use Rattle.mesh_plane.specs.Plane.{TriangleHolds};
 ghost use Rattle.mesh_plane.specs.Surface.{gap_under};
 ghost use Rattle.lattice_sweep.specs.Axis.{point_of, Has};
 ghost use Rattle.lattice_sweep.specs.Plane.{IsTerrainTri};
@@ -38,7 +38,7 @@ fn climb<P: PostSource, S: Store>(
     requires window { IsWindow (P.shapes src.old) window.now }
     requires col { Has window.now.east col }
     requires rows { (i : ℕ) → Has rows.now i
-        ↔ (Has window.now.north i × Holds (pos 10125) (point_of window.now.east col)
+        ↔ (Has window.now.north i × TriangleHolds (pos 10125) (point_of window.now.east col)
         (point_of window.now.north i) tri.now) }
     requires some { rows.now.from < rows.now.to }
     requires worst { pos worst ≤ℤ (pos 32000 *ℤ gap_under tri.now (pos 10125)) }

@@ -6,7 +6,7 @@ use Rattle.polynomial.proofs.Expressions.{var, num, add, sub, mul}
 use Rattle.polynomial.proofs.NormalForm.{by_ring}
 use Rattle.polynomial.proofs.Signs.{times_nonneg, times_pos, factor_pos, weaken, by_le_z}
 use Rattle.mesh_plane.specs.declared.corner.Tri.{Tri}
-use Rattle.mesh_plane.specs.Plane.{HoldsStrictly}
+use Rattle.mesh_plane.specs.Plane.{TriangleHoldsInside}
 use Rattle.mesh_check.specs.Slab.{Slab, Segment, under}
 use Rattle.mesh_check.proofs.Wedges.{beside, Wedge}
 use Rattle.mesh_check.proofs.Leads.{lead, lead_mix, lead_on, besides, rise, leads, ends, rises, still_strictly_left}
@@ -156,8 +156,8 @@ pub record Both (t u : Tri) : Type 0 where
   pub x : ℤ
   pub y : ℤ
   pub larger : pos 1 ≤ℤ s
-  pub first : HoldsStrictly s x y t
-  pub second : HoldsStrictly s x y u
+  pub first : TriangleHoldsInside s x y t
+  pub second : TriangleHoldsInside s x y u
 
 inside_low : (k m s y t z low : ℤ) → pos 0 <ℤ m → (k *ℤ s +ℤ pos 1 *ℤ t) *ℤ low ≡ k *ℤ (s *ℤ low) +ℤ t *ℤ low
 inside_low k m s y t z low h =

@@ -3,7 +3,7 @@ use Rattle.std.proofs.Common.{arith, List, [], ◌∷◌}
 use Rattle.std.specs.Prelude.{ℤ, pos, ◌*ℤ◌, ◌≤ℤ◌, ◌<ℤ◌}
 use Rattle.std.specs.List.{AllByRecursion}
 use Rattle.std.proofs.lemmas.Int.{ints, by_lt_z}
-use Rattle.mesh_plane.specs.Plane.{Holds, IsCounterClockwise}
+use Rattle.mesh_plane.specs.Plane.{TriangleHolds, IsCounterClockwise}
 use Rattle.mesh_plane.specs.Surface.{SameHeight}
 use Rattle.mesh_plane.proofs.Tilings.{all_map}
 use Rattle.mesh_check.specs.Slab.{Slab, under, over, IsSame, Member, Joined, HeightsJoined}
@@ -20,7 +20,7 @@ all_with P Q R f (x ∷ xs) h k = (f x h.0 k.0, all_with P Q R f xs h.1 k.1)
 module _ (slab : Slab) (gap : slab.low <ℤ slab.high) (floor : pos 0 ≤ℤ slab.low) (ceiling : slab.high ≤ℤ pos 32767)
     (s x y : ℤ) (hs : pos 0 ≤ℤ s) (ly : (s *ℤ slab.low) ≤ℤ y) (hy : y ≤ℤ (s *ℤ slab.high)) where
   abbrev pub Same : Member → Member → Type 0
-  Same m n = Holds s x y m.tri → Holds s x y n.tri → SameHeight s x y m.tri n.tri
+  Same m n = TriangleHolds s x y m.tri → TriangleHolds s x y n.tri → SameHeight s x y m.tri n.tri
 
   abbrev pub IsTurned : Member → Type 0
   IsTurned m = IsWedge slab m × IsCounterClockwise m.tri
@@ -41,7 +41,7 @@ module _ (slab : Slab) (gap : slab.low <ℤ slab.high) (floor : pos 0 ≤ℤ sla
 
   from_one : (m : Member) (ms : List Member) → IsTurned m → AllByRecursion IsTurned ms → Joined slab m.right ms
       → HeightsJoined slab m ms
-      → Holds s x y m.tri → AllByRecursion (λ n. Holds s x y n.tri → SameHeight s x y m.tri n.tri) ms
+      → TriangleHolds s x y m.tri → AllByRecursion (λ n. TriangleHolds s x y n.tri → SameHeight s x y m.tri n.tri) ms
   from_one m [] w ws j k i = tt
   from_one m (n ∷ ms) w ws j k i =
       let a : pos 0 ≤ℤ beside m.right s x y = (w.0.inside s x y i).1 in
@@ -61,7 +61,7 @@ module _ (slab : Slab) (gap : slab.low <ℤ slab.high) (floor : pos 0 ≤ℤ sla
         (λ l. next_to m n w ws.0 j.0 k.0 k.1 a (ws.0.0.inside s x y l).0),
         by_lt_z (pos 0) (beside n.right s x y)
             (λ far. all_with IsTurned (λ o. pos 0 <ℤ beside o.left s x y)
-            (λ o. Holds s x y o.tri → SameHeight s x y m.tri o.tri)
+            (λ o. TriangleHolds s x y o.tri → SameHeight s x y m.tri o.tri)
             (λ o v l h. absurd (omega (arith, ints, l, (v.0.inside s x y h).0)))
             ms ws.1 (later_strictly_left slab gap floor ceiling s x y hs ly hy n.right ms ws.0.0.right j.1
             (wedges ms ws.1) far))
@@ -70,16 +70,16 @@ module _ (slab : Slab) (gap : slab.low <ℤ slab.high) (floor : pos 0 ≤ℤ sla
             (rises slab gap n.right ws.0.0.right) wide near in
             let d : pos 0 ≤ℤ beside n.right s x y = still_left n.left n.right s x y un
             (rises slab gap n.right ws.0.0.right) wide c in
-            let held : Holds s x y n.tri = ws.0.0.holds s x y hs ly hy b d in
-            all_map (λ o. Holds s x y o.tri → SameHeight s x y n.tri o.tri)
-            (λ o. Holds s x y o.tri → SameHeight s x y m.tri o.tri)
+            let held : TriangleHolds s x y n.tri = ws.0.0.holds s x y hs ly hy b d in
+            all_map (λ o. TriangleHolds s x y o.tri → SameHeight s x y n.tri o.tri)
+            (λ o. TriangleHolds s x y o.tri → SameHeight s x y m.tri o.tri)
             (λ o f h. same_through m.tri n.tri o.tri s x y ws.0.1 (next_to m n w ws.0 j.0 k.0 k.1 a b) (f h))
             ms (from_one n ms ws.0 ws.1 j.1 k.2 held)),
       )
 
   abbrev pub EachSame : List Member → Type 0
   EachSame [] = Unit {0}
-  EachSame (m ∷ ms) = AllByRecursion (λ n. Holds s x y m.tri → Holds s x y n.tri → SameHeight s x y m.tri n.tri) ms
+  EachSame (m ∷ ms) = AllByRecursion (λ n. TriangleHolds s x y m.tri → TriangleHolds s x y n.tri → SameHeight s x y m.tri n.tri) ms
       × EachSame ms
 
   later : (H : Type 0) (X : Member → Type 0) (ms : List Member) → (H → AllByRecursion X ms) → AllByRecursion
@@ -91,7 +91,7 @@ module _ (slab : Slab) (gap : slab.low <ℤ slab.high) (floor : pos 0 ≤ℤ sla
       → HeightsJoined slab m ms → EachSame (m ∷ ms)
   from_each m [] w ws j k = (tt, tt)
   from_each m (n ∷ ms) w ws j k = (
-    later (Holds s x y m.tri) (λ o. Holds s x y o.tri → SameHeight s x y m.tri o.tri) (n ∷ ms)
+    later (TriangleHolds s x y m.tri) (λ o. TriangleHolds s x y o.tri → SameHeight s x y m.tri o.tri) (n ∷ ms)
         (λ i. from_one m (n ∷ ms) w ws j k i),
     from_each n ms ws.0 ws.1 j.1 k.2,
   )

@@ -4,7 +4,7 @@ use Rattle.std.specs.Prelude.{◌⊎◌, ℤ, pos, ◌*ℤ◌, ◌≤ℤ◌, ◌
 use Rattle.std.specs.List.{AllByRecursion}
 use Rattle.std.proofs.lemmas.Int.{ints, by_lt_z}
 use Rattle.polynomial.proofs.Signs.{weaken}
-use Rattle.mesh_plane.specs.Plane.{Holds, HoldsStrictly}
+use Rattle.mesh_plane.specs.Plane.{TriangleHolds, TriangleHoldsInside}
 use Rattle.mesh_check.specs.Slab.{Slab, Segment, Spans, IsSame, west, east, Member, Joined}
 use Rattle.mesh_check.proofs.Wedges.{beside, Wedge}
 use Rattle.mesh_check.proofs.Leads.{lead, lead_at, rises, no_lead, same_back, still_left, still_strictly_left}
@@ -27,7 +27,7 @@ module _ (slab : Slab) (gap : slab.low <ℤ slab.high) (floor : pos 0 ≤ℤ sla
 
   module _ (s x y : ℤ) (hs : pos 0 ≤ℤ s) (ly : (s *ℤ slab.low) ≤ℤ y) (hy : y ≤ℤ (s *ℤ slab.high)) where
     -- east of a member's left segment: held, or strictly right of it
-    passed : (m : Member) → IsWedge slab m → beside m.left s x y ≤ℤ pos 0 → Holds s x y m.tri ⊎
+    passed : (m : Member) → IsWedge slab m → beside m.left s x y ≤ℤ pos 0 → TriangleHolds s x y m.tri ⊎
         (beside m.right s x y <ℤ pos 0)
     passed m w l = by_lt_z (beside m.right s x y) (pos 0) (λ k. inr k) (λ k. inl (w.holds s x y hs ly hy l k))
 
@@ -42,7 +42,7 @@ module _ (slab : Slab) (gap : slab.low <ℤ slab.high) (floor : pos 0 ≤ℤ sla
 
     -- ---- each point is held
     from_here : (g : Segment) (ms : List Member) → Spans slab g → Joined slab g ms → AllByRecursion (IsWedge slab) ms
-        → x ≤ℤ (pos 32767 *ℤ s) → beside g s x y <ℤ pos 0 → Some (λ m. Holds s x y m.tri) ms
+        → x ≤ℤ (pos 32767 *ℤ s) → beside g s x y <ℤ pos 0 → Some (λ m. TriangleHolds s x y m.tri) ms
     from_here g [] i j w e r =
         absurd (omega (
           arith,
@@ -56,23 +56,23 @@ module _ (slab : Slab) (gap : slab.low <ℤ slab.high) (floor : pos 0 ≤ℤ sla
         (rises slab gap g i) (back g m.left j.0) r)))
         (from_here m.right ms w.0.right j.1 w.1 e)
       where
-        go : Holds s x y m.tri ⊎ (beside m.right s x y <ℤ pos 0) → (beside m.right s x y <ℤ pos 0 → Some
-            (λ m. Holds s x y m.tri) ms)
-            → Holds s x y m.tri ⊎ Some (λ m. Holds s x y m.tri) ms
+        go : TriangleHolds s x y m.tri ⊎ (beside m.right s x y <ℤ pos 0) → (beside m.right s x y <ℤ pos 0 → Some
+            (λ m. TriangleHolds s x y m.tri) ms)
+            → TriangleHolds s x y m.tri ⊎ Some (λ m. TriangleHolds s x y m.tri) ms
         go (inl h) k = inl h
         go (inr h) k = inr (k h)
 
     pub chain_full : (ms : List Member) → Joined slab west ms → AllByRecursion (IsWedge slab) ms
-        → pos 0 ≤ℤ x → x ≤ℤ (pos 32767 *ℤ s) → Some (λ m. Holds s x y m.tri) ms
+        → pos 0 ≤ℤ x → x ≤ℤ (pos 32767 *ℤ s) → Some (λ m. TriangleHolds s x y m.tri) ms
     chain_full [] j w a b = absurd (omega (arith, ints, j.low))
     chain_full (m ∷ ms) j w a b =
         go (passed m w.0 (still_right m.left west s x y (rises slab gap m.left w.0.left)
         (rises slab gap west spans_west) (back west m.left j.0) (omega (arith, ints, a, beside_west s x y))))
         (from_here m.right ms w.0.right j.1 w.1 b)
       where
-        go : Holds s x y m.tri ⊎ (beside m.right s x y <ℤ pos 0) → (beside m.right s x y <ℤ pos 0 → Some
-            (λ m. Holds s x y m.tri) ms)
-            → Holds s x y m.tri ⊎ Some (λ m. Holds s x y m.tri) ms
+        go : TriangleHolds s x y m.tri ⊎ (beside m.right s x y <ℤ pos 0) → (beside m.right s x y <ℤ pos 0 → Some
+            (λ m. TriangleHolds s x y m.tri) ms)
+            → TriangleHolds s x y m.tri ⊎ Some (λ m. TriangleHolds s x y m.tri) ms
         go (inl h) k = inl h
         go (inr h) k = inr (k h)
 
@@ -103,13 +103,13 @@ module _ (slab : Slab) (gap : slab.low <ℤ slab.high) (floor : pos 0 ≤ℤ sla
 
     -- ---- no point is held strictly by two
     abbrev pub Apart : Member → Member → Type 0
-    Apart m n = HoldsStrictly s x y m.tri → HoldsStrictly s x y n.tri → ⊥
+    Apart m n = TriangleHoldsInside s x y m.tri → TriangleHoldsInside s x y n.tri → ⊥
 
     abbrev pub EachApart : List Member → Type 0
     EachApart [] = Unit {0}
     EachApart (m ∷ ms) = AllByRecursion (Apart m) ms × EachApart ms
 
-    none : (m : Member) (ms : List Member) → AllByRecursion (IsWedge slab) ms → (HoldsStrictly s x y m.tri
+    none : (m : Member) (ms : List Member) → AllByRecursion (IsWedge slab) ms → (TriangleHoldsInside s x y m.tri
         → AllByRecursion (λ n. pos 0 <ℤ beside n.left s x y) ms)
         → AllByRecursion (Apart m) ms
     none m [] w f = tt

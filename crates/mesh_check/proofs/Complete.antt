@@ -7,7 +7,7 @@ use Rattle.polynomial.proofs.Expressions.{var, num, add, sub, mul}
 use Rattle.polynomial.proofs.NormalForm.{by_ring}
 use Rattle.polynomial.proofs.Signs.{weaken, times_nonneg, times_pos}
 use Rattle.mesh_plane.specs.declared.corner.Tri.{Tri}
-use Rattle.mesh_plane.specs.Plane.{IsCounterClockwise, Holds, HoldsStrictly, IsTileTri}
+use Rattle.mesh_plane.specs.Plane.{IsCounterClockwise, TriangleHolds, TriangleHoldsInside, IsTileTri}
 use Rattle.mesh_plane.specs.Surface.{SameHeight}
 use Rattle.mesh_plane.specs.Cover.{Covers}
 use Rattle.mesh_plane.proofs.Tilings.{all_map}
@@ -77,8 +77,8 @@ by_sums slab gap g h =
     (sub (mul (add (var 0) (var 2)) (var 4)) (mul (add (var 1) (var 3)) (var 5)))
     (over h slab.low ∷ over g slab.low ∷ over h slab.high ∷ over g slab.high ∷ under g ∷ under h ∷ []) refl
 
-moved : (t u : Tri) (s x y : ℤ) → u ≡ t → Holds s x y t → Holds s x y u
-moved t u s x y e h = subst (λ (z : Tri). Holds s x y z) (sym e) h
+moved : (t u : Tri) (s x y : ℤ) → u ≡ t → TriangleHolds s x y t → TriangleHolds s x y u
+moved t u s x y e h = subst (λ (z : Tri). TriangleHolds s x y z) (sym e) h
 
 pub ordered : {P : Type 0} (i j : ℕ) → (i ≡ j → ⊥) → (i < j → P) → (j < i → P) → P
 ordered i j n f g = by_lt_z (pos i) (pos j) (λ l. f (omega (arith, ints, l))) (λ l. by_lt_z (pos j) (pos i)
@@ -86,12 +86,12 @@ ordered i j n f g = by_lt_z (pos i) (pos j) (λ l. f (omega (arith, ints, l))) (
 
 module _ (ts : List Tri) (covers : Covers ts) where
   pub one_height_of : (i j : ℕ) (t u : Tri) → IsAt ts i t → IsAt ts j u → (i ≡ j → ⊥) → (s x y : ℤ) → pos 1 ≤ℤ s
-      → Holds s x y t → Holds s x y u → SameHeight s x y t u
+      → TriangleHolds s x y t → TriangleHolds s x y u → SameHeight s x y t u
   one_height_of i j t u p q d s x y hs a b =
       ordered i j d
-      (λ o. pair_at (λ t u. Holds s x y t → Holds s x y u → SameHeight s x y t u) ts i j t u
+      (λ o. pair_at (λ t u. TriangleHolds s x y t → TriangleHolds s x y u → SameHeight s x y t u) ts i j t u
       (covers.one_height s x y hs) o q.0 p.1 q.1 a b)
-      (λ o. sym (pair_at (λ t u. Holds s x y t → Holds s x y u → SameHeight s x y t u) ts j i u t
+      (λ o. sym (pair_at (λ t u. TriangleHolds s x y t → TriangleHolds s x y u → SameHeight s x y t u) ts j i u t
       (covers.one_height s x y hs) o p.0 q.1 p.1 b a))
 
 module _ (levels : List ℤ) (ts : List Tri) (placed : ArePlaced levels ts) (covers : Covers ts) (slab : Slab)
@@ -151,9 +151,9 @@ module _ (levels : List ℤ) (ts : List Tri) (placed : ArePlaced levels ts) (cov
   disjoint : (m n : Member) → IsListed slab ts m → IsListed slab ts n → (m.number ≡ n.number → ⊥) → Both m.tri n.tri → ⊥
   disjoint m n l k d b =
       ordered m.number n.number d
-      (λ o. pair_at (λ t u. ¬ (HoldsStrictly b.s b.x b.y t × HoldsStrictly b.s b.x b.y u)) ts m.number n.number m.tri
+      (λ o. pair_at (λ t u. ¬ (TriangleHoldsInside b.s b.x b.y t × TriangleHoldsInside b.s b.x b.y u)) ts m.number n.number m.tri
       n.tri (covers.once b.s b.x b.y b.larger) o k.at.0 l.at.1 k.at.1 (b.first, b.second))
-      (λ o. pair_at (λ t u. ¬ (HoldsStrictly b.s b.x b.y t × HoldsStrictly b.s b.x b.y u)) ts n.number m.number n.tri
+      (λ o. pair_at (λ t u. ¬ (TriangleHoldsInside b.s b.x b.y t × TriangleHoldsInside b.s b.x b.y u)) ts n.number m.number n.tri
       m.tri (covers.once b.s b.x b.y b.larger) o l.at.0 k.at.1 l.at.1 (b.second, b.first))
 
   disjoints : Each (λ m n. Both m.tri n.tri → ⊥) ms
@@ -166,7 +166,7 @@ module _ (levels : List ℤ) (ts : List Tri) (placed : ArePlaced levels ts) (cov
       (λ m l. (wedge_m m l, in_down m.tri m.left (tile_tri m l) l.is.down, in_up m.tri m.right (tile_tri m l) l.is.up))
       ms lists
 
-  full_from : (k x : ℤ) → pos 0 <ℤ k → pos 0 ≤ℤ x → x ≤ℤ (pos 32767 *ℤ (k *ℤ pos 2)) → Some (λ m. Holds (k *ℤ pos 2) x
+  full_from : (k x : ℤ) → pos 0 <ℤ k → pos 0 ≤ℤ x → x ≤ℤ (pos 32767 *ℤ (k *ℤ pos 2)) → Some (λ m. TriangleHolds (k *ℤ pos 2) x
       (k *ℤ (slab.low +ℤ slab.high)) m.tri) ms
   full_from k x hk x0 x1 =
       let s = k *ℤ pos 2 in let y = k *ℤ (slab.low +ℤ slab.high) in
@@ -203,7 +203,7 @@ module _ (levels : List ℤ) (ts : List Tri) (placed : ArePlaced levels ts) (cov
             north;
       }) in
       let at : IsAt ts a.0 a.1 = (a.2, a.3) in
-      some_map (IsFor levels ts placed ccw a.0 a.1 slab) (λ m. Holds s x y m.tri) ms
+      some_map (IsFor levels ts placed ccw a.0 a.1 slab) (λ m. TriangleHolds s x y m.tri) ms
       (λ m f. moved a.1 m.tri s x y f.1 a.4)
       (member_for levels ts placed ccw slab ms are a.0 a.1 at
       (record {

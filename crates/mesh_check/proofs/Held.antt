@@ -7,10 +7,10 @@ use Rattle.polynomial.proofs.NormalForm.{by_ring}
 use Rattle.polynomial.proofs.Signs.{times_nonneg, factor_nonneg, factor_pos, weaken}
 use Rattle.mesh_plane.specs.declared.corner.Corner.{Corner}
 use Rattle.mesh_plane.specs.declared.corner.Tri.{Tri}
-use Rattle.mesh_plane.specs.Plane.{side_of, doubled_area, IsCounterClockwise, Holds, HoldsStrictly, IsTileTri}
+use Rattle.mesh_plane.specs.Plane.{side_of, doubled_area, IsCounterClockwise, TriangleHolds, TriangleHoldsInside, IsTileTri}
 use Rattle.mesh_check.proofs.Sides.{side, areaE, corners, height}
 
-module _ (t : Tri) (n : IsCounterClockwise t) (s x y : ℤ) (h : Holds s x y t) where
+module _ (t : Tri) (n : IsCounterClockwise t) (s x y : ℤ) (h : TriangleHolds s x y t) where
   -- the point is as far above the level m as its three parts
   parts : (m : ℤ) → doubled_area t *ℤ (y -ℤ s *ℤ m)
       ≡ (side_of t.b t.c s x y *ℤ (t.a.v -ℤ m) +ℤ side_of t.c t.a s x y *ℤ (t.b.v -ℤ m)) +ℤ side_of t.a t.b s x y *ℤ
@@ -101,7 +101,7 @@ moved a b s x y =
     (mul (sub (var 6) (var 4)) (sub (mul (num 65536) (var 1)) (mul (mul (num 65536) (var 0)) (var 3)))))
     (add (mul (num 65536) (side 0 1)) (sub (var 5) (var 3))) (s ∷ x ∷ y ∷ corners (a ∷ b ∷ [])) refl
 
-pub still_strictly : (t : Tri) (s x y : ℤ) → IsTileTri t → HoldsStrictly s x y t → HoldsStrictly (off *ℤ s) (off *ℤ x)
+pub still_strictly : (t : Tri) (s x y : ℤ) → IsTileTri t → TriangleHoldsInside s x y t → TriangleHoldsInside (off *ℤ s) (off *ℤ x)
     (off *ℤ y +ℤ pos 1) t
 still_strictly t s x y i h = record {
   ab = omega (arith, ints, moved t.a t.b s x y, h.ab, i.a.west, i.a.east, i.b.west, i.b.east);
@@ -119,5 +119,5 @@ off_level s y l h =
           (s ∷ l ∷ []) refl,
     )
 
-pub strictly_holds : (t : Tri) (s x y : ℤ) → HoldsStrictly s x y t → Holds s x y t
+pub strictly_holds : (t : Tri) (s x y : ℤ) → TriangleHoldsInside s x y t → TriangleHolds s x y t
 strictly_holds t s x y h = record { ab = weaken h.ab; bc = weaken h.bc; ca = weaken h.ca }

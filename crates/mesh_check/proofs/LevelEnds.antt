@@ -6,7 +6,7 @@ use Rattle.std.specs.List.{AllByRecursion}
 use Rattle.std.proofs.lemmas.Int.{ints, by_lt_z}
 use Rattle.polynomial.proofs.Signs.{weaken}
 use Rattle.mesh_plane.specs.declared.corner.Tri.{Tri}
-use Rattle.mesh_plane.specs.Plane.{Holds, IsCounterClockwise}
+use Rattle.mesh_plane.specs.Plane.{TriangleHolds, IsCounterClockwise}
 use Rattle.mesh_plane.specs.Surface.{SameHeight}
 use Rattle.mesh_plane.proofs.Tilings.{all_map}
 use Rattle.mesh_check.specs.Slab.{Slab, Segment, Member, under, over, IsSame, SameAt, east, west, Joined}
@@ -23,7 +23,7 @@ module _ (levels : List ℤ) (ts : List Tri) (placed : ArePlaced levels ts) (tur
   -- two members of a slab, at one place or at two
   one_in : (slab : Slab) → IsSlab levels slab → (s x y : ℤ) → pos 0 ≤ℤ s → (s *ℤ slab.low) ≤ℤ y → y ≤ℤ (s *ℤ slab.high)
       → (m n : Member) → IsListed slab ts m → IsListed slab ts n
-      → Holds s x y m.tri → Holds s x y n.tri → SameHeight s x y m.tri n.tri
+      → TriangleHolds s x y m.tri → TriangleHolds s x y n.tri → SameHeight s x y m.tri n.tri
   one_in slab is s x y hs ly hy m n l k i j =
       let rm = reaches_down slab is.order ts m.tri m.left l.is.down l.is.left.low l.is.left.high in
       let rn = reaches_down slab is.order ts n.tri n.left k.is.down k.is.left.low k.is.left.high in

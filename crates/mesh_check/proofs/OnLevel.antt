@@ -7,7 +7,7 @@ use Rattle.polynomial.proofs.Expressions.{Expr, var, num, add, sub, mul}
 use Rattle.polynomial.proofs.NormalForm.{by_ring}
 use Rattle.polynomial.proofs.Signs.{times_nonneg, times_pos, factor_nonneg, weaken, by_le_z}
 use Rattle.mesh_plane.specs.declared.corner.Tri.{Tri}
-use Rattle.mesh_plane.specs.Plane.{Holds}
+use Rattle.mesh_plane.specs.Plane.{TriangleHolds}
 use Rattle.mesh_plane.specs.Surface.{SameHeight}
 use Rattle.mesh_check.specs.Slab.{Slab, Segment, under, over, SameAt, Member}
 use Rattle.mesh_check.specs.Members.{IsOneOf, HoldsEnd}
@@ -120,7 +120,7 @@ module _ (below above : Slab) (b : below.low <ℤ below.high) (a : above.low <�
     (bv : v ≤ℤ below.high) (va : above.low ≤ℤ v) (av : v ≤ℤ above.high)
     (m n : Member) (w : Wedge below m.tri m.left m.right) (z : Wedge above n.tri n.left n.right)
     (agree : (g : Segment) → IsOneOf g m n → HoldsEnd g v m.tri → HoldsEnd g v n.tri → SameAt g v m.tri n.tri)
-    (s x : ℤ) (hs : pos 0 <ℤ s) (hm : Holds s x (s *ℤ v) m.tri) (hn : Holds s x (s *ℤ v) n.tri) where
+    (s x : ℤ) (hs : pos 0 <ℤ s) (hm : TriangleHolds s x (s *ℤ v) m.tri) (hn : TriangleHolds s x (s *ℤ v) n.tri) where
   most : (k a b : ℤ) → pos 0 ≤ℤ k → a ≤ℤ b → (k *ℤ a) ≤ℤ (k *ℤ b)
   most k a b h l = omega (
     arith,

@@ -8,7 +8,7 @@ use Rattle.std.proofs.lemmas.Int.{ints, by_lt_z}
 use Rattle.polynomial.proofs.Expressions.{var, num, add, sub, mul}
 use Rattle.polynomial.proofs.NormalForm.{by_ring}
 use Rattle.polynomial.proofs.Signs.{times_nonneg, factor_pos, weaken}
-use Rattle.mesh_plane.specs.Plane.{Holds, IsOnTile}
+use Rattle.mesh_plane.specs.Plane.{TriangleHolds, IsOnTile}
 use Rattle.mesh_check.specs.Slab.{Slab, Segment, under, Spans, IsSame, west, east, Member, Joined}
 use Rattle.mesh_check.proofs.Wedges.{beside}
 use Rattle.mesh_check.proofs.Leads.{lead, lead_at, lead_over, rises, no_lead, still_strictly_left, still_strictly_right}
@@ -160,7 +160,7 @@ module _ (slab : Slab) (gap : slab.low <ℤ slab.high) (floor : pos 0 ≤ℤ sla
   abbrev pub FullFrom : Segment → List Member → Type 0
   FullFrom g ms = (k x : ℤ) → pos 0 <ℤ k → pos 0 ≤ℤ x → x ≤ℤ (pos 32767 *ℤ (k *ℤ pos 2)) → beside g (k *ℤ pos 2) x
       (k *ℤ middle) <ℤ pos 0
-      → Some (λ m. Holds (k *ℤ pos 2) x (k *ℤ middle) m.tri) ms
+      → Some (λ m. TriangleHolds (k *ℤ pos 2) x (k *ℤ middle) m.tri) ms
 
   -- the left segments ascend
   abbrev pub Ascend : List Member → Type 0
@@ -201,7 +201,7 @@ module _ (slab : Slab) (gap : slab.low <ℤ slab.high) (floor : pos 0 ≤ℤ sla
   none_later : (m : Member) (ms : List Member) (k x : ℤ) → pos 0 <ℤ k → IsWhole m → AllByRecursion IsWhole ms
       → AllByRecursion (λ n. pos 0 ≤ℤ lead m.left n.left (pos 2) middle) ms → pos 0 <ℤ beside m.left (k *ℤ pos 2) x
       (k *ℤ middle)
-      → Some (λ n. Holds (k *ℤ pos 2) x (k *ℤ middle) n.tri) ms → ⊥
+      → Some (λ n. TriangleHolds (k *ℤ pos 2) x (k *ℤ middle) n.tri) ms → ⊥
   none_later m [] k x hk w ws a l h = elim h [ ]
   none_later m (n ∷ ms) k x hk w ws a l (inl h) =
       let e : pos 0 <ℤ beside n.left (k *ℤ pos 2) x (k *ℤ middle) =

@@ -7,7 +7,7 @@ use Rattle.polynomial.proofs.Expressions.{var, num, sub, mul}
 use Rattle.polynomial.proofs.NormalForm.{by_ring}
 use Rattle.polynomial.proofs.Signs.{weaken}
 use Rattle.mesh_plane.specs.declared.corner.Tri.{Tri}
-use Rattle.mesh_plane.specs.Plane.{doubled_area, IsCounterClockwise, Holds, HoldsStrictly, IsTilePoint, IsTileTri}
+use Rattle.mesh_plane.specs.Plane.{doubled_area, IsCounterClockwise, TriangleHolds, TriangleHoldsInside, IsTilePoint, IsTileTri}
 use Rattle.mesh_plane.specs.Surface.{SameHeight}
 use Rattle.mesh_plane.specs.Cover.{Covers, HeldOnce, OneHeight}
 use Rattle.mesh_plane.proofs.ListWords.{all_to, all_from}
@@ -87,13 +87,13 @@ module _ (levels : List ℤ) (ts : List Tri) (placed : ArePlaced levels ts) (tur
       (λ h. inl (inr (inl h))) b.1) (λ h. inl (inl h)) b.0
 
   -- a triangle that holds a point below the upper level, and one that holds a point above the lower one
-  pub goes_down : (slab : Slab) → IsSlab levels slab → (k : ℕ) (t : Tri) → IsAt ts k t → (s x y : ℤ) → Holds s x y t
+  pub goes_down : (slab : Slab) → IsSlab levels slab → (k : ℕ) (t : Tri) → IsAt ts k t → (s x y : ℤ) → TriangleHolds s x y t
       → y <ℤ (s *ℤ slab.high) → Down slab t
   goes_down slab is k t i s x y h l =
       ⊎_elim (λ d. d) (λ n. absurd (omega (arith, ints, l, above_least t (ccw k t i) s x y h slab.high n.a n.b n.c)))
       (down_or slab t (sides_of slab is k t i))
 
-  pub goes_up : (slab : Slab) → IsSlab levels slab → (k : ℕ) (t : Tri) → IsAt ts k t → (s x y : ℤ) → Holds s x y t →
+  pub goes_up : (slab : Slab) → IsSlab levels slab → (k : ℕ) (t : Tri) → IsAt ts k t → (s x y : ℤ) → TriangleHolds s x y t →
       (s *ℤ slab.low) <ℤ y → Up slab t
   goes_up slab is k t i s x y h l =
       ⊎_elim (λ d. d) (λ n. absurd (omega (arith, ints, l, below_greatest t (ccw k t i) s x y h slab.low n.a n.b n.c)))
@@ -163,17 +163,17 @@ module _ (levels : List ℤ) (ts : List Tri) (placed : ArePlaced levels ts) (tur
   module _ (slabs : (slab : Slab) → IsSlab levels slab → IsWhole slab ts) where
     full_in : (slab : Slab) → IsSlab levels slab → (s x y : ℤ) → pos 0 ≤ℤ s → (s *ℤ slab.low) ≤ℤ y → y ≤ℤ
         (s *ℤ slab.high) → pos 0 ≤ℤ x → x ≤ℤ (pos 32767 *ℤ s)
-        → Any (Holds s x y) ts
+        → Any (TriangleHolds s x y) ts
     full_in slab is s x y hs ly hy a b =
         let w = slabs slab is in let r = range_of slab is in
         let ls = listed slab w.members w.are in
-        some_any (Holds s x y) w.members
-        (some_with (λ m. Holds s x y m.tri) (λ m. IsAt ts m.number m.tri) w.members (all_map (IsListed slab ts)
+        some_any (TriangleHolds s x y) w.members
+        (some_with (λ m. TriangleHolds s x y m.tri) (λ m. IsAt ts m.number m.tri) w.members (all_map (IsListed slab ts)
         (λ m. IsAt ts m.number m.tri) (λ m l. l.at) w.members ls)
         (chain_full slab is.order r.0 r.1 s x y hs ly hy w.members w.joined (all_map (IsListed slab ts) (IsWedge slab)
         (λ m l. wedge_at slab is m l) w.members ls) a b))
 
-    pub full : (s x y : ℤ) → pos 1 ≤ℤ s → IsTilePoint s x y → Any (Holds s x y) ts
+    pub full : (s x y : ℤ) → pos 1 ≤ℤ s → IsTilePoint s x y → Any (TriangleHolds s x y) ts
     full s x y hs p =
         by_lt_z y (s *ℤ pos 32767)
         (λ l. let f = floor_at s y p.south l in full_in f.slab f.is s x y (omega (arith, ints, hs)) f.low
@@ -182,7 +182,7 @@ module _ (levels : List ℤ) (ts : List Tri) (placed : ArePlaced levels ts) (tur
         full_in f.slab f.is s x y (omega (arith, ints, hs)) (weaken f.low) f.high p.west p.east)
 
     once_apart : (s x y : ℤ) → pos 1 ≤ℤ s → (i j : ℕ) (t u : Tri) → i < j → IsAt ts i t → IsAt ts j u
-        → HoldsStrictly s x y t → HoldsStrictly s x y u → ⊥
+        → TriangleHoldsInside s x y t → TriangleHoldsInside s x y u → ⊥
     once_apart s x y hs i j t u l p q a b =
         let o = off *ℤ s in let ox = off *ℤ x in let oy = off *ℤ y +ℤ pos 1 in
         let ta = all_at IsTileTri ts i t placed.on_tile p.0 p.1 in let tb =
@@ -214,15 +214,15 @@ module _ (levels : List ℤ) (ts : List Tri) (placed : ArePlaced levels ts) (tur
               goes_up f.slab f.is j u q o ox oy (strictly_holds u o ox oy hb) f.low;
         } in
         let ls = listed f.slab w.members w.are in
-        two_of (λ m n. HoldsStrictly o ox oy m.tri → HoldsStrictly o ox oy n.tri → ⊥) (IsFor i t f.slab)
+        two_of (λ m n. TriangleHoldsInside o ox oy m.tri → TriangleHoldsInside o ox oy n.tri → ⊥) (IsFor i t f.slab)
         (IsFor j u f.slab) w.members
         (chain_once f.slab f.is.order r.0 r.1 o ox oy ho (weaken f.low) f.high west w.members w.joined
         (all_map (IsListed f.slab ts) (IsWedge f.slab) (λ m l. wedge_at f.slab f.is m l) w.members ls))
         (λ m e g. omega (arith, l, e.0, g.0))
-        (λ m n e g apart. apart (subst (λ (z : Tri). HoldsStrictly o ox oy z) (sym e.1) ha)
-        (subst (λ (z : Tri). HoldsStrictly o ox oy z) (sym g.1) hb))
-        (λ m n e g apart. apart (subst (λ (z : Tri). HoldsStrictly o ox oy z) (sym g.1) hb)
-        (subst (λ (z : Tri). HoldsStrictly o ox oy z) (sym e.1) ha))
+        (λ m n e g apart. apart (subst (λ (z : Tri). TriangleHoldsInside o ox oy z) (sym e.1) ha)
+        (subst (λ (z : Tri). TriangleHoldsInside o ox oy z) (sym g.1) hb))
+        (λ m n e g apart. apart (subst (λ (z : Tri). TriangleHoldsInside o ox oy z) (sym g.1) hb)
+        (subst (λ (z : Tri). TriangleHoldsInside o ox oy z) (sym e.1) ha))
         (member_for f.slab w.members w.are i t p ra) (member_for f.slab w.members w.are j u q rb)
       where
         off_below : (s y l : ℤ) → (off *ℤ y +ℤ pos 1) ≤ℤ ((off *ℤ s) *ℤ l) → (off *ℤ y +ℤ pos 1) <ℤ ((off *ℤ s) *ℤ l)
@@ -255,18 +255,18 @@ module _ (levels : List ℤ) (ts : List Tri) (placed : ArePlaced levels ts) (tur
         (s x y : ℤ) (hs : pos 0 ≤ℤ s) (ly : (s *ℤ slab.low) ≤ℤ y) (hy : y ≤ℤ (s *ℤ slab.high))
         (ms : List Member) → AllByRecursion (λ m. IsWedge slab m × IsCounterClockwise m.tri) ms → Joined slab west ms
         → HasHeights slab ms
-        → Each (λ m n. Holds s x y m.tri → Holds s x y n.tri → SameHeight s x y m.tri n.tri) ms
+        → Each (λ m n. TriangleHolds s x y m.tri → TriangleHolds s x y n.tri → SameHeight s x y m.tri n.tri) ms
     heights slab gap floor ceiling s x y hs ly hy [] w j k = tt
     heights slab gap floor ceiling s x y hs ly hy (m ∷ ms) w j k =
         chain_heights slab gap floor ceiling s x y hs ly hy m ms w j.1 k
 
     pub same_in : (slab : Slab) → IsSlab levels slab → (s x y : ℤ) → pos 0 ≤ℤ s → (s *ℤ slab.low) ≤ℤ y → y ≤ℤ
         (s *ℤ slab.high) → (i j : ℕ) (t u : Tri) → i < j → IsAt ts i t → IsAt ts j u
-        → Reaches slab t → Reaches slab u → Holds s x y t → Holds s x y u → SameHeight s x y t u
+        → Reaches slab t → Reaches slab u → TriangleHolds s x y t → TriangleHolds s x y u → SameHeight s x y t u
     same_in slab is s x y hs ly hy i j t u l p q ra rb a b =
         let w = slabs slab is in let r = range_of slab is in
         let ls = listed slab w.members w.are in
-        two_of (λ m n. Holds s x y m.tri → Holds s x y n.tri → SameHeight s x y m.tri n.tri) (IsFor i t slab)
+        two_of (λ m n. TriangleHolds s x y m.tri → TriangleHolds s x y n.tri → SameHeight s x y m.tri n.tri) (IsFor i t slab)
         (IsFor j u slab) w.members
         (heights slab is.order r.0 r.1 s x y hs ly hy w.members (all_map (IsListed slab ts)
         (λ m. IsWedge slab m × IsCounterClockwise m.tri) (λ m l. (
@@ -278,30 +278,30 @@ module _ (levels : List ℤ) (ts : List Tri) (placed : ArePlaced levels ts) (tur
         (λ m n e g h. sym (put u t n.tri m.tri g.1 e.1 h b a))
         (member_for slab w.members w.are i t p ra) (member_for slab w.members w.are j u q rb)
       where
-        put : (t u t' u' : Tri) → t' ≡ t → u' ≡ u → (Holds s x y t' → Holds s x y u' → SameHeight s x y t' u')
-            → Holds s x y t → Holds s x y u → SameHeight s x y t u
-        put t u t' u' e f h = subst (λ (z : Tri). Holds s x y z → Holds s x y u → SameHeight s x y z u) e
-            (subst (λ (z : Tri). Holds s x y t' → Holds s x y z → SameHeight s x y t' z) f h)
+        put : (t u t' u' : Tri) → t' ≡ t → u' ≡ u → (TriangleHolds s x y t' → TriangleHolds s x y u' → SameHeight s x y t' u')
+            → TriangleHolds s x y t → TriangleHolds s x y u → SameHeight s x y t u
+        put t u t' u' e f h = subst (λ (z : Tri). TriangleHolds s x y z → TriangleHolds s x y u → SameHeight s x y z u) e
+            (subst (λ (z : Tri). TriangleHolds s x y t' → TriangleHolds s x y z → SameHeight s x y t' z) f h)
 
     module _ (lines : (below above : Slab) → IsSlab levels below → IsSlab levels above → below.high ≡ above.low
         → AgreesOn ts below above) where
       across : (below above : Slab) → IsSlab levels below → IsSlab levels above → below.high ≡ above.low → (s x y : ℤ)
           → pos 0 <ℤ s → y ≡ s *ℤ below.high → (i j : ℕ) (t u : Tri) → IsAt ts i t → IsAt ts j u
-          → Reaches below t → Reaches above u → Holds s x y t → Holds s x y u → SameHeight s x y t u
+          → Reaches below t → Reaches above u → TriangleHolds s x y t → TriangleHolds s x y u → SameHeight s x y t u
       across below above is is' e s x y hs f i j t u p q ra rb a b =
           let w = slabs below is in let w' = slabs above is' in
           some_elim (IsFor i t below) w.members
           (λ m g. some_elim (IsFor j u above) w'.members
-          (λ n h. subst (λ (z : ℤ). Holds s x z t → Holds s x z u → SameHeight s x z t u) (sym f)
+          (λ n h. subst (λ (z : ℤ). TriangleHolds s x z t → TriangleHolds s x z u → SameHeight s x z t u) (sym f)
           (at_level m n g h) a b)
           (member_for above w'.members w'.are j u q rb))
           (member_for below w.members w.are i t p ra)
         where
-          at_level : (m n : Member) → IsFor i t below m → IsFor j u above n → Holds s x (s *ℤ below.high) t → Holds s x
+          at_level : (m n : Member) → IsFor i t below m → IsFor j u above n → TriangleHolds s x (s *ℤ below.high) t → TriangleHolds s x
               (s *ℤ below.high) u → SameHeight s x (s *ℤ below.high) t u
-          at_level m n g h = subst (λ (z : Tri). Holds s x (s *ℤ below.high) z → Holds s x (s *ℤ below.high) u
+          at_level m n g h = subst (λ (z : Tri). TriangleHolds s x (s *ℤ below.high) z → TriangleHolds s x (s *ℤ below.high) u
               → SameHeight s x (s *ℤ below.high) z u) g.1
-              (subst (λ (z : Tri). Holds s x (s *ℤ below.high) m.tri → Holds s x (s *ℤ below.high) z → SameHeight s x
+              (subst (λ (z : Tri). TriangleHolds s x (s *ℤ below.high) m.tri → TriangleHolds s x (s *ℤ below.high) z → SameHeight s x
               (s *ℤ below.high) m.tri z) h.1
               (λ c d. on_level below above is.order is'.order below.high (weaken is.order) (omega (arith, ints))
               (omega (arith, ints, e)) (omega (arith, ints, e, is'.order)) m n
@@ -316,7 +316,7 @@ module _ (levels : List ℤ) (ts : List Tri) (placed : ArePlaced levels ts) (tur
 
       where_is : (below above : Slab) → IsSlab levels below → IsSlab levels above → (s x y : ℤ) → pos 0 <ℤ s →
           (s *ℤ below.low) <ℤ y → y ≤ℤ (s *ℤ below.high) → (s *ℤ above.low) ≤ℤ y → y <ℤ (s *ℤ above.high)
-          → (i : ℕ) (t : Tri) → IsAt ts i t → Holds s x y t → Reaches below t ⊎ IsAbove below above s y t
+          → (i : ℕ) (t : Tri) → IsAt ts i t → TriangleHolds s x y t → Reaches below t ⊎ IsAbove below above s y t
       where_is below above is is' s x y hs l₁ l₂ l₃ l₄ i t p a =
           ⊎_elim (λ d. inl (record { down = d; up = goes_up below is i t p s x y a l₁ }))
           (λ n. inr (
@@ -336,8 +336,8 @@ module _ (levels : List ℤ) (ts : List Tri) (placed : ArePlaced levels ts) (tur
             on = on;
           })) (down_or below t (sides_of below is i t p))
 
-      one_pair : (s x y : ℤ) → pos 1 ≤ℤ s → (i j : ℕ) (t u : Tri) → i < j → IsAt ts i t → IsAt ts j u → Holds s x y t
-          → Holds s x y u → SameHeight s x y t u
+      one_pair : (s x y : ℤ) → pos 1 ≤ℤ s → (i j : ℕ) (t u : Tri) → i < j → IsAt ts i t → IsAt ts j u → TriangleHolds s x y t
+          → TriangleHolds s x y u → SameHeight s x y t u
       one_pair s x y hs i j t u l p q a b =
           let scale_nonnegative : pos 0 ≤ℤ s = omega (arith, ints, hs) in
           let scale_positive : pos 0 <ℤ s = omega (arith, ints, hs) in
@@ -375,7 +375,7 @@ module _ (levels : List ℤ) (ts : List Tri) (placed : ArePlaced levels ts) (tur
           (at_bottom f j u q tb b k) a b)
         where
           at_top : (c : SlabAt (λ v. (s *ℤ v) <ℤ y) (λ v. y ≤ℤ (s *ℤ v))) (i : ℕ) (t : Tri) → IsAt ts i t → IsTileTri t
-              → Holds s x y t → (s *ℤ pos 32767) ≤ℤ y → Reaches c.slab t
+              → TriangleHolds s x y t → (s *ℤ pos 32767) ≤ℤ y → Reaches c.slab t
           at_top c i t p z a m =
               let e : pos 32767 ≤ℤ c.slab.high = most_out s (pos 32767) c.slab.high (omega (arith, ints, hs))
               (omega (arith, ints, m, c.high)) in
@@ -394,7 +394,7 @@ module _ (levels : List ℤ) (ts : List Tri) (placed : ArePlaced levels ts) (tur
               }
 
           at_bottom : (c : SlabAt (λ v. (s *ℤ v) ≤ℤ y) (λ v. y <ℤ (s *ℤ v))) (i : ℕ) (t : Tri) → IsAt ts i t
-              → IsTileTri t → Holds s x y t → y ≤ℤ pos 0 → Reaches c.slab t
+              → IsTileTri t → TriangleHolds s x y t → y ≤ℤ pos 0 → Reaches c.slab t
           at_bottom c i t p z a m =
               let e : c.slab.low ≤ℤ pos 0 = most_out s c.slab.low (pos 0) (omega (arith, ints, hs)) (omega (
                 arith,

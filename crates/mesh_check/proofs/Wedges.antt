@@ -7,7 +7,7 @@ use Rattle.polynomial.proofs.NormalForm.{by_ring}
 use Rattle.polynomial.proofs.Signs.{times_nonneg, times_pos, factor_nonneg, factor_pos, weaken}
 use Rattle.mesh_plane.specs.declared.corner.Corner.{Corner}
 use Rattle.mesh_plane.specs.declared.corner.Tri.{Tri}
-use Rattle.mesh_plane.specs.Plane.{side_of, IsCounterClockwise, Holds, HoldsStrictly}
+use Rattle.mesh_plane.specs.Plane.{side_of, IsCounterClockwise, TriangleHolds, TriangleHoldsInside}
 use Rattle.mesh_check.specs.Slab.{Slab, Segment, segment, under, Spans, IsDown, IsUp}
 use Rattle.mesh_check.proofs.Sides.{area, flipped, three_sides, above}
 
@@ -18,13 +18,13 @@ beside g s x y = side_of g.low g.high s x y
 pub record Wedge (slab : Slab) (t : Tri) (l r : Segment) : Type 0 where
   pub left : Spans slab l
   pub right : Spans slab r
-  pub inside : (s x y : ℤ) → Holds s x y t → (beside l s x y ≤ℤ pos 0) × (pos 0 ≤ℤ beside r s x y)
-  pub strictly_inside : (s x y : ℤ) → HoldsStrictly s x y t
+  pub inside : (s x y : ℤ) → TriangleHolds s x y t → (beside l s x y ≤ℤ pos 0) × (pos 0 ≤ℤ beside r s x y)
+  pub strictly_inside : (s x y : ℤ) → TriangleHoldsInside s x y t
       → (beside l s x y <ℤ pos 0) × (pos 0 <ℤ beside r s x y)
   pub holds : (s x y : ℤ) → pos 0 ≤ℤ s → (s *ℤ slab.low) ≤ℤ y → y ≤ℤ (s *ℤ slab.high)
-      → beside l s x y ≤ℤ pos 0 → pos 0 ≤ℤ beside r s x y → Holds s x y t
+      → beside l s x y ≤ℤ pos 0 → pos 0 ≤ℤ beside r s x y → TriangleHolds s x y t
   pub holds_strictly : (s x y : ℤ) → pos 0 ≤ℤ s → (s *ℤ slab.low) <ℤ y → y <ℤ (s *ℤ slab.high)
-      → beside l s x y <ℤ pos 0 → pos 0 <ℤ beside r s x y → HoldsStrictly s x y t
+      → beside l s x y <ℤ pos 0 → pos 0 <ℤ beside r s x y → TriangleHoldsInside s x y t
   pub wide : (s x y : ℤ) → pos 0 ≤ℤ s → (s *ℤ slab.low) ≤ℤ y → y ≤ℤ (s *ℤ slab.high)
       → (beside l s x y *ℤ under r) ≤ℤ (beside r s x y *ℤ under l)
   pub strictly_wide : (s x y : ℤ) → pos 0 ≤ℤ s → (s *ℤ slab.low) <ℤ y → y <ℤ (s *ℤ slab.high)
@@ -244,10 +244,10 @@ turned slab a b c l r w = record {
   inside = λ s x y i. w.inside s x y (record { ab = i.bc; bc = i.ca; ca = i.ab });
   strictly_inside = λ s x y i. w.strictly_inside s x y (record { ab = i.bc; bc = i.ca; ca = i.ab });
   holds = λ s x y hs ly hy i j.
-      let h : Holds s x y (record { a = b; b = c; c = a }) = w.holds s x y hs ly hy i j in
+      let h : TriangleHolds s x y (record { a = b; b = c; c = a }) = w.holds s x y hs ly hy i j in
       record { ab = h.ca; bc = h.ab; ca = h.bc };
   holds_strictly = λ s x y hs ly hy i j.
-      let h : HoldsStrictly s x y (record { a = b; b = c; c = a }) = w.holds_strictly s x y hs ly hy i j in
+      let h : TriangleHoldsInside s x y (record { a = b; b = c; c = a }) = w.holds_strictly s x y hs ly hy i j in
       record { ab = h.ca; bc = h.ab; ca = h.bc };
   wide = w.wide;
   strictly_wide = w.strictly_wide;

@@ -11,12 +11,12 @@ use Rattle.mesh_check.specs.declared.verdict.Verdict.{Verdict}
 use Rattle.mesh_check.specs.Findings.{IsExact}
 
 -- the corner of a vertex
-abbrev pub corner_of : Codes → Corner
-corner_of codes = record { u = pos codes.u; v = pos codes.v; h = pos codes.height }
+abbrev pub code_corner : Codes → Corner
+code_corner codes = record { u = pos codes.u; v = pos codes.v; h = pos codes.height }
 
 -- the corner of the vertex of a number
 abbrev pub corner_at : Mesh → ℕ → Corner
-corner_at mesh vertex = corner_of (slice_index_or mesh.vertices vertex (record { u = 0; v = 0; height = 0 }))
+corner_at mesh vertex = code_corner (slice_index_or mesh.vertices vertex (record { u = 0; v = 0; height = 0 }))
 
 -- a triangle by its corners
 abbrev pub tri_of : Mesh → Indexes → Tri

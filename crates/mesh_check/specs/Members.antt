@@ -2,7 +2,7 @@
 use Rattle.std.specs.Prelude.{◌≡◌, ◌⊎◌, ℕ, ◌<◌, ℤ, pos, ◌+ℤ◌, ◌*ℤ◌, ◌≤ℤ◌, ◌<ℤ◌, List, [], ◌∷◌, length, slice_index_or}
 use Rattle.std.specs.Prelude.{All, Any, AllPairs, Contains}
 use Rattle.mesh_plane.specs.declared.corner.Tri.{Tri}
-use Rattle.mesh_plane.specs.Plane.{IsTileTri, IsCounterClockwise, Holds}
+use Rattle.mesh_plane.specs.Plane.{IsTileTri, IsCounterClockwise, TriangleHolds}
 use Rattle.mesh_check.specs.Slab.{Slab, Segment, under, over, Member, IsMember, Joined, HeightsJoined, SameAt, west}
 use Rattle.mesh_check.specs.Slab.{IsTileSegment, IsCode}
 
@@ -72,7 +72,7 @@ IsOneOf g m n = (g ≡ m.left) ⊎ ((g ≡ m.right) ⊎ ((g ≡ n.left) ⊎ (g �
 
 -- the triangle holds the point where the segment meets the level v
 abbrev pub HoldsEnd : Segment → ℤ → Tri → Type 0
-HoldsEnd g v t = Holds (under g) (over g v) (under g *ℤ v) t
+HoldsEnd g v t = TriangleHolds (under g) (over g v) (under g *ℤ v) t
 
 -- a member of the slab, with its number
 pub record IsListed (slab : Slab) (triangles : List Tri) (m : Member) : Type 0 where

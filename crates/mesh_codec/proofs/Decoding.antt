@@ -7,8 +7,8 @@ use Rattle.terrain_base.specs.declared.indexes.Indexes.{Indexes}
 use Rattle.mesh_codec.specs.declared.codes.Codes.{Codes}
 use Rattle.mesh_codec.specs.declared.refusal.Array.{Array}
 use Rattle.mesh_codec.specs.declared.refusal.Array.TheVariants.{U, V, Height}
-use Rattle.mesh_codec.specs.declared.edge.Edge.{Edge}
-use Rattle.mesh_codec.specs.declared.edge.Edge.TheVariants.{West, South, East, North}
+use Rattle.terrain_base.specs.declared.side.Side.{Side}
+use Rattle.terrain_base.specs.declared.side.Side.TheVariants.{West, South, East, North}
 use Rattle.mesh_codec.specs.Number.{number_at, AreBytes}
 use Rattle.mesh_codec.specs.Mesh.{IsMesh, IsVertex, IsTriangle, IsEdge, coordinate, edge_of}
 use Rattle.terrain_base.specs.FirstUse.{corners}
@@ -105,18 +105,18 @@ has_indexes bytes tile k h =
     whole m n v e = grind (arith, nat_tests)
 
 -- ---- the edges
-pub edge_total : (bytes : List ℕ) (edge : Edge) → length (edge_list bytes edge) ≡ number_at 4 bytes (edge_at bytes edge)
+pub edge_total : (bytes : List ℕ) (edge : Side) → length (edge_list bytes edge) ≡ number_at 4 bytes (edge_at bytes edge)
 unfolding edge_list
 edge_total bytes edge = length-map-range_with_len _ 0 (number_at 4 bytes (edge_at bytes edge))
 
-has_entries : (bytes : List ℕ) (edge : Edge) → HasEntries (index_width (vertices_in bytes)) bytes (edge_at bytes edge + 4) (edge_list bytes edge)
+has_entries : (bytes : List ℕ) (edge : Side) → HasEntries (index_width (vertices_in bytes)) bytes (edge_at bytes edge + 4) (edge_list bytes edge)
 unfolding edge_list
 has_entries bytes edge k h =
     let n = number_at 4 bytes (edge_at bytes edge) in
     let f = entry_at (index_width (vertices_in bytes)) bytes (edge_at bytes edge + 4) in
     get_or-map-range_with_len f 0 n k k 0 (omega (arith, h, length-map-range_with_len f 0 n)) (omega arith)
 
-is_edge : (bytes : List ℕ) (edge : Edge) → AreBytes bytes → IsTile bytes → IsEdge (length (vertex_list bytes)) (edge_list bytes edge)
+is_edge : (bytes : List ℕ) (edge : Side) → AreBytes bytes → IsTile bytes → IsEdge (length (vertex_list bytes)) (edge_list bytes edge)
 is_edge bytes edge are tile = record {
   each = let P : List ℕ → Type 0 = All (λ vertex. vertex < length (vertex_list bytes)) in
       subst P (edge_list_is bytes edge (vertices_in bytes) (edge_at bytes edge) (number_at 4 bytes (edge_at bytes edge)) refl refl refl)
@@ -124,7 +124,7 @@ is_edge bytes edge are tile = record {
   few = omega (arith, edge_total bytes edge, number_small 4 bytes (edge_at bytes edge) are);
 }
 
-pub edge_of_mesh : (bytes : List ℕ) (edge : Edge) → edge_of (mesh_in bytes) edge ≡ edge_list bytes edge
+pub edge_of_mesh : (bytes : List ℕ) (edge : Side) → edge_of (mesh_in bytes) edge ≡ edge_list bytes edge
 unfolding mesh_in
 edge_of_mesh bytes West = refl
 edge_of_mesh bytes South = refl

@@ -4,7 +4,7 @@ use Rattle.std.specs.List.{range_with_len}
 use Rattle.std.specs.Option.{option_or}
 use Rattle.mesh_codec.specs.declared.refusal.TileRefusal.{TileRefusal}
 use Rattle.mesh_codec.specs.declared.refusal.Array.TheVariants.{U, V, Height}
-use Rattle.mesh_codec.specs.declared.edge.Edge.TheVariants.{West, South, East, North}
+use Rattle.terrain_base.specs.declared.side.Side.TheVariants.{West, South, East, North}
 use Rattle.mesh_codec.specs.Text.{index_data_at}
 use Rattle.mesh_codec.specs.Layout.{vertices_in, west_at, south_at, east_at, north_at, extensions_at}
 use Rattle.mesh_codec.specs.Refusal.{first_of, part_condition, array_conditions, vertex_conditions, triangle_conditions, edge_conditions, extension_conditions, conditions_of}

@@ -5,8 +5,8 @@ use Rattle.byteorder.specs.Endian.{little_bytes}
 use Rattle.mesh_codec.specs.declared.header.Header.{Header}
 use Rattle.mesh_codec.specs.declared.refusal.Array.{Array}
 use Rattle.mesh_codec.specs.declared.refusal.Array.TheVariants.{U, V, Height}
-use Rattle.mesh_codec.specs.declared.edge.Edge.{Edge}
-use Rattle.mesh_codec.specs.declared.edge.Edge.TheVariants.{West, South, East, North}
+use Rattle.terrain_base.specs.declared.side.Side.{Side}
+use Rattle.terrain_base.specs.declared.side.Side.TheVariants.{West, South, East, North}
 use Rattle.mesh_codec.specs.Number.{number_at, AreBytes}
 use Rattle.mesh_codec.specs.Mesh.{Mesh, coordinate, edge_of}
 use Rattle.terrain_base.specs.FirstUse.{corners}
@@ -84,13 +84,13 @@ module _ (bytes : List ℕ) (header : Header) (mesh : Mesh) (are : AreBytes byte
       (known_spelled bytes are 4 at (length mesh.triangles) (omega (arith, sound.triangles.fits)) decodes.triangle_count)
       (indexes_spelled bytes are width indexes (at + 4) (omega (arith, end, sound.triangles.fits)) decodes.indexes ∙ ap (λ n. indexes_text width 0 indexes ++ drop n bytes) end)
 
-  edge : (which : Edge) → Spells bytes (edge_at bytes which) (list_end width bytes (edge_at bytes which)) (edge_text width (edge_of mesh which))
+  edge : (which : Side) → Spells bytes (edge_at bytes which) (list_end width bytes (edge_at bytes which)) (edge_text width (edge_of mesh which))
   edge which = list_spelled bytes are width (edge_of mesh which) (edge_at bytes which) (sound.edges which).fits (decodes.edge_counts which) (decodes.edges which)
 
   edges : Spells bytes (west_at bytes) (extensions_at bytes) (edges_text width mesh)
   unfolding south_at east_at north_at extensions_at
   edges =
-      let text = λ (which : Edge). edge_text width (edge_of mesh which) in
+      let text = λ (which : Side). edge_text width (edge_of mesh which) in
       both bytes (west_at bytes) (south_at bytes) (extensions_at bytes) (text West) (text South ++ (text East ++ text North)) (edge West)
       (both bytes (south_at bytes) (east_at bytes) (extensions_at bytes) (text South) (text East ++ text North) (edge South)
       (both bytes (east_at bytes) (north_at bytes) (extensions_at bytes) (text East) (text North) (edge East) (edge North)))

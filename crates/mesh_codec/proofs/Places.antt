@@ -5,8 +5,8 @@ use Rattle.std.proofs.Math.Nat.{mul-le-mul_left}
 use Rattle.std.proofs.lemmas.Bool.Decides.{nat_tests}
 use Rattle.mesh_codec.specs.declared.refusal.Array.{Array}
 use Rattle.mesh_codec.specs.declared.refusal.Array.TheVariants.{U, V, Height}
-use Rattle.mesh_codec.specs.declared.edge.Edge.{Edge}
-use Rattle.mesh_codec.specs.declared.edge.Edge.TheVariants.{West, South, East, North}
+use Rattle.terrain_base.specs.declared.side.Side.{Side}
+use Rattle.terrain_base.specs.declared.side.Side.TheVariants.{West, South, East, North}
 use Rattle.mesh_codec.specs.Number.{number_at}
 use Rattle.mesh_codec.specs.Text.{index_width, index_data_at}
 use Rattle.mesh_codec.specs.Difference.{difference_at, running_value, to_code, code_at}
@@ -27,7 +27,7 @@ counted bytes tile = (tile_sound bytes tile).counted
 pub triangles_counted : (bytes : List ℕ) → IsTile bytes → index_data_at (vertices_in bytes) + 4 ≤ length bytes
 triangles_counted bytes tile = omega (arith, (tile_sound bytes tile).triangles.fits)
 
-pub list_fits : (bytes : List ℕ) (edge : Edge) → IsTile bytes → list_end (index_width (vertices_in bytes)) bytes (edge_at bytes edge) ≤ length bytes
+pub list_fits : (bytes : List ℕ) (edge : Side) → IsTile bytes → list_end (index_width (vertices_in bytes)) bytes (edge_at bytes edge) ≤ length bytes
 list_fits bytes edge tile = ((tile_sound bytes tile).edges edge).fits
 
 pub west_fits : (bytes : List ℕ) → IsTile bytes → list_end (index_width (vertices_in bytes)) bytes (west_at bytes) ≤ length bytes
@@ -125,7 +125,7 @@ pub triangle_list_is : (bytes : List ℕ) (vertices triangles : ℕ) → vertice
 unfolding triangle_list
 triangle_list_is bytes vertices triangles e n = let all : triangles - 0 ≡ triangles = omega arith in rw (all, e, n) refl
 
-pub edge_list_is : (bytes : List ℕ) (edge : Edge) (vertices start count : ℕ) → vertices ≡ vertices_in bytes → start ≡ edge_at bytes edge → count ≡ number_at 4 bytes start
+pub edge_list_is : (bytes : List ℕ) (edge : Side) (vertices start count : ℕ) → vertices ≡ vertices_in bytes → start ≡ edge_at bytes edge → count ≡ number_at 4 bytes start
     → map (entry_at (index_width vertices) bytes (start + 4)) (range_with_len 0 (count - 0)) ≡ edge_list bytes edge
 unfolding edge_list
 edge_list_is bytes edge vertices start count e s n = let all : count - 0 ≡ count = omega arith in rw (all, n, s, e) refl
@@ -169,15 +169,15 @@ triangles_in_range bytes vertices triangles tile e n = each_of (IsTriangle (vert
     small k h = omega (arith, e, index_small bytes vertices k tile e h)
 
 -- ---- an edge's list
-pub edge_counted : (bytes : List ℕ) (edge : Edge) → IsTile bytes → edge_at bytes edge + 4 ≤ length bytes
+pub edge_counted : (bytes : List ℕ) (edge : Side) → IsTile bytes → edge_at bytes edge + 4 ≤ length bytes
 unfolding list_end
 edge_counted bytes edge tile = omega (arith, list_fits bytes edge tile)
 
-pub edge_read : (bytes : List ℕ) (edge : Edge) (vertices start count : ℕ) → IsTile bytes → vertices ≡ vertices_in bytes → start ≡ edge_at bytes edge → count ≡ number_at 4 bytes start → IsListRead bytes vertices (start + 4) count 0
+pub edge_read : (bytes : List ℕ) (edge : Side) (vertices start count : ℕ) → IsTile bytes → vertices ≡ vertices_in bytes → start ≡ edge_at bytes edge → count ≡ number_at 4 bytes start → IsListRead bytes vertices (start + 4) count 0
 unfolding list_end
 edge_read bytes edge vertices start count tile e s n = record { fits = rw (n, s, e) (list_fits bytes edge tile); within = omega arith }
 
-pub edge_in_range : (bytes : List ℕ) (edge : Edge) (vertices start count : ℕ) → IsTile bytes → vertices ≡ vertices_in bytes → start ≡ edge_at bytes edge → count ≡ number_at 4 bytes start
+pub edge_in_range : (bytes : List ℕ) (edge : Side) (vertices start count : ℕ) → IsTile bytes → vertices ≡ vertices_in bytes → start ≡ edge_at bytes edge → count ≡ number_at 4 bytes start
     → All (λ vertex. vertex < vertices_in bytes) (map (entry_at (index_width vertices) bytes (start + 4)) (range_with_len 0 (count - 0)))
 edge_in_range bytes edge vertices start count tile e s n = each_of (λ vertex. vertex < vertices_in bytes) (entry_at (index_width vertices) bytes (start + 4)) (count - 0)
     (λ k h. rw (s, e) (((tile_sound bytes tile).edges edge).entries k (rw (← s, ← n) (omega (arith, h)))))

@@ -2,7 +2,7 @@
 use Rattle.std.proofs.Common.{◌≡◌, ℕ, List, ◌++◌, length, refl, ap, ◌∙◌}
 use Rattle.terrain_base.specs.declared.indexes.Indexes.{Indexes}
 use Rattle.mesh_codec.specs.declared.codes.Codes.{Codes}
-use Rattle.mesh_codec.specs.declared.edge.Edge.TheVariants.{West, South, East, North}
+use Rattle.terrain_base.specs.declared.side.Side.TheVariants.{West, South, East, North}
 use Rattle.mesh_codec.specs.Layout.{vertices_in}
 use Rattle.mesh_codec.specs.Mesh.{Mesh, empty_mesh}
 use Rattle.mesh_codec.specs.Tile.{vertex_list, triangle_list, edge_list, mesh_in}

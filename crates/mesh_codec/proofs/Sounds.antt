@@ -8,8 +8,8 @@ use Rattle.mesh_codec.specs.declared.refusal.TileRefusal.{TileRefusal}
 use Rattle.mesh_codec.specs.declared.refusal.TileRefusal.TheVariants.{Truncated, CoordinateOutOfRange, IndexOutOfRange, EdgeIndexTooLarge, Compressed}
 use Rattle.mesh_codec.specs.declared.refusal.Array.{Array}
 use Rattle.mesh_codec.specs.declared.refusal.Array.TheVariants.{U, V, Height}
-use Rattle.mesh_codec.specs.declared.edge.Edge.{Edge}
-use Rattle.mesh_codec.specs.declared.edge.Edge.TheVariants.{West, South, East, North}
+use Rattle.terrain_base.specs.declared.side.Side.{Side}
+use Rattle.terrain_base.specs.declared.side.Side.TheVariants.{West, South, East, North}
 use Rattle.mesh_codec.specs.Number.{number_at}
 use Rattle.mesh_codec.specs.Text.{index_width, index_data_at}
 use Rattle.mesh_codec.specs.Difference.{running_value, to_code}
@@ -39,7 +39,7 @@ pub record Sound (bytes : List ℕ) : Type 0 where
   pub counted : 92 ≤ length bytes
   pub arrays : (array : Array) → ArraySound bytes (array_at (vertices_in bytes) array) (vertices_in bytes)
   pub triangles : TrianglesSound bytes (vertices_in bytes) (index_data_at (vertices_in bytes))
-  pub edges : (edge : Edge) → ListSound bytes (vertices_in bytes) (edge_at bytes edge)
+  pub edges : (edge : Side) → ListSound bytes (vertices_in bytes) (edge_at bytes edge)
   pub extensions : first_of (extension_conditions bytes (extensions_at bytes)) ≡ None
 
 -- ---- single conditions
@@ -135,7 +135,7 @@ sound_triangles bytes vertices at s =
     (both_or _ _ (fits_part bytes (at + 4) (index_width vertices * codes) s.fits)
     (each_none (index_condition bytes vertices (at + 4)) codes (λ k h. none_when (IndexOutOfRange k) _ (s.indexes k h))))
 
-list_sound : (bytes : List ℕ) (vertices : ℕ) (edge : Edge) (at : ℕ) → first_of (edge_conditions bytes vertices edge at) ≡ None → ListSound bytes vertices at
+list_sound : (bytes : List ℕ) (vertices : ℕ) (edge : Side) (at : ℕ) → first_of (edge_conditions bytes vertices edge at) ≡ None → ListSound bytes vertices at
 unfolding edge_conditions list_end
 list_sound bytes vertices edge at e =
     let count = number_at 4 bytes at in
@@ -146,7 +146,7 @@ list_sound bytes vertices edge at e =
       entries = λ k h. not_reached vertices _ (when_none (EdgeIndexTooLarge edge k) _ (none_each (entry_condition bytes vertices edge (at + 4)) count c.1 k h));
     }
 
-sound_list : (bytes : List ℕ) (vertices : ℕ) (edge : Edge) (at : ℕ) → ListSound bytes vertices at → first_of (edge_conditions bytes vertices edge at) ≡ None
+sound_list : (bytes : List ℕ) (vertices : ℕ) (edge : Side) (at : ℕ) → ListSound bytes vertices at → first_of (edge_conditions bytes vertices edge at) ≡ None
 unfolding edge_conditions list_end
 sound_list bytes vertices edge at s =
     let count = number_at 4 bytes at in

@@ -9,8 +9,8 @@ use Rattle.byteorder.specs.Endian.{little_bytes}
 use Rattle.mesh_codec.specs.declared.header.Header.{Header}
 use Rattle.mesh_codec.specs.declared.refusal.Array.{Array}
 use Rattle.mesh_codec.specs.declared.refusal.Array.TheVariants.{U, V, Height}
-use Rattle.mesh_codec.specs.declared.edge.Edge.{Edge}
-use Rattle.mesh_codec.specs.declared.edge.Edge.TheVariants.{West, South, East, North}
+use Rattle.terrain_base.specs.declared.side.Side.{Side}
+use Rattle.terrain_base.specs.declared.side.Side.TheVariants.{West, South, East, North}
 use Rattle.mesh_codec.specs.Number.{number_at}
 use Rattle.mesh_codec.specs.Mesh.{Mesh, IsMesh, IsEncodable, IsVertex, IsEdge, coordinate, edge_of}
 use Rattle.terrain_base.specs.FirstUse.{corners}
@@ -249,13 +249,13 @@ module _ (header : Header) (mesh : Mesh) (is_header : IsHeader header) (is_mesh 
     indexes_at : HasIndexes width text (index_data_at vertices + 4) (corners mesh.triangles)
     indexes_at = has_indexes width vertices (corners mesh.triangles) (index_data_at vertices + 4) text from_edges fits (corners_small vertices mesh.triangles is_mesh.triangles) (within_mark mesh encodable) d_codes
 
-    counts_at : (edge : Edge) → number_at 4 text (edge_at text edge) ≡ length (edge_of mesh edge)
+    counts_at : (edge : Side) → number_at 4 text (edge_at text edge) ≡ length (edge_of mesh edge)
     counts_at West = west.0
     counts_at South = south.0
     counts_at East = east.0
     counts_at North = north.0
 
-    entries_at : (edge : Edge) → HasEntries width text (edge_at text edge + 4) (edge_of mesh edge)
+    entries_at : (edge : Side) → HasEntries width text (edge_at text edge + 4) (edge_of mesh edge)
     entries_at West = west.1
     entries_at South = south.1
     entries_at East = east.1

@@ -8,8 +8,8 @@ use Rattle.mesh_codec.specs.declared.header.Header.{Header}
 use Rattle.mesh_codec.specs.declared.codes.Codes.{Codes}
 use Rattle.mesh_codec.specs.declared.refusal.Array.{Array}
 use Rattle.mesh_codec.specs.declared.refusal.Array.TheVariants.{U, V, Height}
-use Rattle.mesh_codec.specs.declared.edge.Edge.{Edge}
-use Rattle.mesh_codec.specs.declared.edge.Edge.TheVariants.{West, South, East, North}
+use Rattle.terrain_base.specs.declared.side.Side.{Side}
+use Rattle.terrain_base.specs.declared.side.Side.TheVariants.{West, South, East, North}
 use Rattle.mesh_codec.specs.Number.{number_at}
 use Rattle.mesh_codec.specs.Mesh.{Mesh, IsTriangle, IsEdge, coordinate, edge_of}
 use Rattle.terrain_base.specs.FirstUse.{corners}
@@ -91,7 +91,7 @@ offsets bytes = let width = index_width (vertices_in bytes) in
     let n = list_beyond width bytes (north_at bytes) in
     record { west = omega (arith, w); south = omega (arith, s); east = omega (arith, e); north = omega (arith, n) }
 
-list_within : (bytes : List ℕ) (edge : Edge) → extensions_at bytes ≤ length bytes → list_end (index_width (vertices_in bytes)) bytes (edge_at bytes edge) ≤ length bytes
+list_within : (bytes : List ℕ) (edge : Side) → extensions_at bytes ≤ length bytes → list_end (index_width (vertices_in bytes)) bytes (edge_at bytes edge) ≤ length bytes
 unfolding south_at east_at north_at extensions_at
 list_within bytes West h = let o = offsets bytes in omega (arith, o.south, o.east, o.north, h)
 list_within bytes South h = let o = offsets bytes in omega (arith, o.east, o.north, h)
@@ -146,13 +146,13 @@ module _ (bytes : List ℕ) (header : Header) (mesh : Mesh) (extensions : List E
         no_vertex_not (slice_index (corners mesh.triangles) k) _ _ (vertices_in bytes) (decodes.indexes k early) (omega (arith, small, decodes.vertex_count));
   }
 
-  edge_is : (edge : Edge) → IsEdge (length mesh.vertices) (edge_of mesh edge)
+  edge_is : (edge : Side) → IsEdge (length mesh.vertices) (edge_of mesh edge)
   edge_is West = decodes.is_mesh.west
   edge_is South = decodes.is_mesh.south
   edge_is East = decodes.is_mesh.east
   edge_is North = decodes.is_mesh.north
 
-  list_sound : (edge : Edge) → ListSound bytes (vertices_in bytes) (edge_at bytes edge)
+  list_sound : (edge : Side) → ListSound bytes (vertices_in bytes) (edge_at bytes edge)
   list_sound edge = record {
     fits = list_within bytes edge decodes.long_enough;
     entries = λ k h.
@@ -194,7 +194,7 @@ module _ (bytes : List ℕ) (header : Header) (mesh : Mesh) (extensions : List E
       (λ k h. less (slice_index (corners mesh.triangles) k) (mark_at width bytes at k) (entry_at width bytes at k) (decodes.indexes k (omega (arith, h, corner_total))))
       ∙ sym (corners_list bytes))
 
-  same_edge : (edge : Edge) → edge_of mesh edge ≡ edge_list bytes edge
+  same_edge : (edge : Side) → edge_of mesh edge ≡ edge_list bytes edge
   unfolding edge_list
   same_edge edge =
       fill_by_all (entry_at (index_width (vertices_in bytes)) bytes (edge_at bytes edge + 4)) (edge_of mesh edge) (number_at 4 bytes (edge_at bytes edge)) 0 (sym (decodes.edge_counts edge))

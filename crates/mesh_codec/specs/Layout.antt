@@ -1,7 +1,7 @@
 -- Where the parts of a tile stand (quantized-mesh-1.0).
 use Rattle.std.specs.Prelude.{ℕ, ◌+◌, ◌*◌, List}
-use Rattle.mesh_codec.specs.declared.edge.Edge.{Edge}
-use Rattle.mesh_codec.specs.declared.edge.Edge.TheVariants.{West, South, East, North}
+use Rattle.terrain_base.specs.declared.side.Side.{Side}
+use Rattle.terrain_base.specs.declared.side.Side.TheVariants.{West, South, East, North}
 use Rattle.mesh_codec.specs.declared.refusal.Array.{Array}
 use Rattle.mesh_codec.specs.declared.refusal.Array.TheVariants.{U, V, Height}
 use Rattle.mesh_codec.specs.Number.{number_at}
@@ -42,7 +42,7 @@ north_at bytes = list_end (index_width (vertices_in bytes)) bytes (east_at bytes
 unfoldable pub extensions_at : List ℕ → ℕ
 extensions_at bytes = list_end (index_width (vertices_in bytes)) bytes (north_at bytes)
 
-abbrev pub edge_at : List ℕ → Edge → ℕ
+abbrev pub edge_at : List ℕ → Side → ℕ
 edge_at bytes West = west_at bytes
 edge_at bytes South = south_at bytes
 edge_at bytes East = east_at bytes

@@ -6,8 +6,8 @@ use Rattle.terrain_base.specs.FirstUse.{IsByFirstUse, corners}
 use Rattle.mesh_codec.specs.declared.codes.Codes.{Codes}
 use Rattle.mesh_codec.specs.declared.refusal.Array.{Array}
 use Rattle.mesh_codec.specs.declared.refusal.Array.TheVariants.{U, V, Height}
-use Rattle.mesh_codec.specs.declared.edge.Edge.{Edge}
-use Rattle.mesh_codec.specs.declared.edge.Edge.TheVariants.{West, South, East, North}
+use Rattle.terrain_base.specs.declared.side.Side.{Side}
+use Rattle.terrain_base.specs.declared.side.Side.TheVariants.{West, South, East, North}
 
 -- the vertices by number, the triangles by their vertices, and the vertices along each edge of the tile
 pub record Mesh : Type 0 where
@@ -22,21 +22,21 @@ abbrev pub empty_mesh : Mesh
 empty_mesh = record { vertices = []; triangles = []; west = []; south = []; east = []; north = [] }
 
 -- the vertices along an edge
-abbrev pub edge_of : Mesh → Edge → List ℕ
+abbrev pub edge_of : Mesh → Side → List ℕ
 edge_of mesh West = mesh.west
 edge_of mesh South = mesh.south
 edge_of mesh East = mesh.east
 edge_of mesh North = mesh.north
 
 -- the mesh with another list along an edge
-abbrev pub with_list : Mesh → Edge → List ℕ → Mesh
+abbrev pub with_list : Mesh → Side → List ℕ → Mesh
 with_list mesh West list = record mesh { west = list }
 with_list mesh South list = record mesh { south = list }
 with_list mesh East list = record mesh { east = list }
 with_list mesh North list = record mesh { north = list }
 
 -- the mesh with one vertex more along an edge
-abbrev pub with_edge : Mesh → Edge → ℕ → Mesh
+abbrev pub with_edge : Mesh → Side → ℕ → Mesh
 with_edge mesh edge vertex = with_list mesh edge (edge_of mesh edge ++ vertex ∷ [])
 
 -- codes from 0 to 32767

@@ -2,8 +2,8 @@
 use Rattle.std.specs.Prelude.{◌≡◌, ℕ, zero, suc, ◌+◌, ◌-◌, ◌*◌, nat_lt, nat_le, nat_eq, Bool, not, All, IsNone, List, [], ◌∷◌, ◌++◌, length, map, Option, Some, None, is_some, if◌then◌else◌}
 use Rattle.std.specs.List.{range_with_len, starts_with}
 use Rattle.std.specs.Option.{option_or, option_map}
-use Rattle.mesh_codec.specs.declared.edge.Edge.{Edge}
-use Rattle.mesh_codec.specs.declared.edge.Edge.TheVariants.{West, South, East, North}
+use Rattle.terrain_base.specs.declared.side.Side.{Side}
+use Rattle.terrain_base.specs.declared.side.Side.TheVariants.{West, South, East, North}
 use Rattle.mesh_codec.specs.declared.refusal.Array.{Array}
 use Rattle.mesh_codec.specs.declared.refusal.Array.TheVariants.{U, V, Height}
 use Rattle.mesh_codec.specs.declared.refusal.TileRefusal.{TileRefusal}
@@ -64,12 +64,12 @@ triangle_conditions bytes vertices at =
     ∷ map (index_condition bytes vertices (at + 4)) (range_with_len 0 codes)
 
 -- the index at a place of an edge's list is none of so many vertices
-abbrev pub entry_condition : List ℕ → ℕ → Edge → ℕ → ℕ → Option TileRefusal
+abbrev pub entry_condition : List ℕ → ℕ → Side → ℕ → ℕ → Option TileRefusal
 entry_condition bytes vertices edge at k =
     (EdgeIndexTooLarge edge k when nat_le vertices (entry_at (index_width vertices) bytes at k))
 
 -- an edge's list: the count at an offset, and so many indexes
-unfoldable pub edge_conditions : List ℕ → ℕ → Edge → ℕ → List (Option TileRefusal)
+unfoldable pub edge_conditions : List ℕ → ℕ → Side → ℕ → List (Option TileRefusal)
 edge_conditions bytes vertices edge at =
     let count = number_at 4 bytes at in
     part_condition bytes at 4 ∷ part_condition bytes (at + 4) (index_width vertices * count)

@@ -4,8 +4,8 @@ use Rattle.std.specs.List.{range_with_len}
 use Rattle.terrain_base.specs.declared.indexes.Indexes.{Indexes}
 use Rattle.mesh_codec.specs.declared.codes.Codes.{Codes}
 use Rattle.mesh_codec.specs.declared.header.Header.{Header}
-use Rattle.mesh_codec.specs.declared.edge.Edge.{Edge}
-use Rattle.mesh_codec.specs.declared.edge.Edge.TheVariants.{West, South, East, North}
+use Rattle.terrain_base.specs.declared.side.Side.{Side}
+use Rattle.terrain_base.specs.declared.side.Side.TheVariants.{West, South, East, North}
 use Rattle.mesh_codec.specs.declared.refusal.Array.{Array}
 use Rattle.mesh_codec.specs.declared.refusal.Array.TheVariants.{U, V, Height}
 use Rattle.mesh_codec.specs.Number.{number_at}
@@ -62,7 +62,7 @@ abbrev pub entries_at : ℕ → List ℕ → ℕ → ℕ → List ℕ
 entries_at width bytes at count = map (entry_at width bytes at) (range_with_len 0 count)
 
 -- the vertices along an edge
-unfoldable pub edge_list : List ℕ → Edge → List ℕ
+unfoldable pub edge_list : List ℕ → Side → List ℕ
 edge_list bytes edge = entries_at (index_width (vertices_in bytes)) bytes (edge_at bytes edge + 4)
     (number_at 4 bytes (edge_at bytes edge))
 
@@ -96,8 +96,8 @@ pub record Decodes (bytes : List ℕ) (header : Header) (mesh : Mesh) (extension
   pub triangle_count : triangles_in bytes ≡ length mesh.triangles
   pub indexes : HasIndexes (index_width (vertices_in bytes)) bytes (index_data_at (vertices_in bytes) + 4)
       (corners mesh.triangles)
-  pub edge_counts : (edge : Edge) → number_at 4 bytes (edge_at bytes edge) ≡ length (edge_of mesh edge)
-  pub edges : (edge : Edge) → HasEntries (index_width (vertices_in bytes)) bytes (edge_at bytes edge + 4)
+  pub edge_counts : (edge : Side) → number_at 4 bytes (edge_at bytes edge) ≡ length (edge_of mesh edge)
+  pub edges : (edge : Side) → HasEntries (index_width (vertices_in bytes)) bytes (edge_at bytes edge + 4)
       (edge_of mesh edge)
   pub long_enough : extensions_at bytes ≤ length bytes
   pub to_the_end : drop (extensions_at bytes) bytes ≡ flat_map extension_text extensions

@@ -2,11 +2,11 @@
 ghost use Rattle.std.specs.Prelude.{◌≡◌, ◌+◌, ◌^◌, ◌<◌, ◌++◌, All, length, OnOk};
 ghost use Rattle.mesh_codec.specs.Mesh.{IsVertex, IsTriangle, edge_of, with_list};
 
+use crate::CodeMesh;
 use crate::edge_indexes::EdgeIndexes;
 use crate::triangles::Triangles;
 use crate::vertex_codes::VertexCodes;
-use crate::{CodeMesh, Edge};
-use terrain_base::NoMemory;
+use terrain_base::{NoMemory, Side};
 
 /// Adds vertices.
 pub(crate) fn add_vertices(mesh: &mut CodeMesh, vertices: VertexCodes<'_>) -> Result<(), NoMemory>
@@ -36,7 +36,7 @@ pub(crate) fn add_triangles(mesh: &mut CodeMesh, triangles: Triangles<'_>) -> Re
 #[tactic(auto, using(crate::proofs::Edges::edge_of_list, crate::proofs::Edges::with_list_again, crate::proofs::Edges::vertices_of_list))]
 pub(crate) fn add_list(
     mesh: &mut CodeMesh,
-    edge: Edge,
+    edge: Side,
     list: EdgeIndexes<'_>,
 ) -> Result<(), NoMemory>
     requires in_range { All (λ vertex. vertex < length mesh.old.vertices) list }

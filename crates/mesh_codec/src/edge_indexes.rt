@@ -5,11 +5,11 @@ ghost use Rattle.std.specs.Iterator.{YieldsFirst, item_count};
 ghost use Rattle.mesh_codec.specs.Good.{IsTile};
 ghost use Rattle.mesh_codec.specs.Tile.{edge_list};
 
-use crate::Edge;
 use crate::index::entry;
 use crate::layout::{edge_start, vertex_number};
 use crate::number::long;
 use std::marker::Model;
+use terrain_base::Side;
 
 /// The vertices along an edge of a tile, read where they stand. It is seen as the list of those that are
 /// left.
@@ -39,7 +39,7 @@ impl<'a> Model for EdgeIndexes<'a> {
 
 impl<'a> EdgeIndexes<'a> {
     /// The vertices along an edge of a tile.
-    pub(crate) fn of(bytes: &'a [u8], edge: Edge) -> EdgeIndexes<'a>
+    pub(crate) fn of(bytes: &'a [u8], edge: Side) -> EdgeIndexes<'a>
         requires { IsTile bytes.now }
         ensures list { result ≡ edge_list bytes.now edge }
         ensures in_range { All (λ vertex. vertex < vertices_in bytes.now) result }

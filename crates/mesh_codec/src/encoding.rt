@@ -40,9 +40,9 @@ ghost use Rattle.mesh_codec.specs.Text.{
 
 use crate::layout::padding;
 use crate::number::{put_double, put_long, put_short};
-use crate::{Array, CodeMesh, Codes, Edge, Header};
+use crate::{Array, CodeMesh, Codes, Header};
 use std::alloc::Global;
-use terrain_base::{Indexes, NoMemory};
+use terrain_base::{Indexes, NoMemory, Side};
 
 /// Adds a point.
 fn put_point(out: &mut Vec<u8>, point: &[u64]) -> Result<(), NoMemory>
@@ -195,10 +195,10 @@ fn put_indexes(out: &mut Vec<u8>, mesh: &CodeMesh) -> Result<(), NoMemory>
     let triangles = mesh.triangles();
     put_long(out, triangles.len() as u32)?;
     put_triangles(out, triangles, vertices)?;
-    put_edge(out, mesh.edge(Edge::West), vertices)?;
-    put_edge(out, mesh.edge(Edge::South), vertices)?;
-    put_edge(out, mesh.edge(Edge::East), vertices)?;
-    put_edge(out, mesh.edge(Edge::North), vertices)
+    put_edge(out, mesh.edge(Side::West), vertices)?;
+    put_edge(out, mesh.edge(Side::South), vertices)?;
+    put_edge(out, mesh.edge(Side::East), vertices)?;
+    put_edge(out, mesh.edge(Side::North), vertices)
 }
 
 /// Adds a header and a mesh.

@@ -31,10 +31,11 @@ ghost use Rattle.mesh_codec.specs.Refusal.{
   edge_conditions,
 };
 
+use crate::TileRefusal;
 use crate::layout::index_bytes;
 use crate::number::{long, short};
 use crate::part::read_part;
-use crate::{Edge, TileRefusal};
+use terrain_base::Side;
 
 /// The number at a place of a list of the index width.
 #[tactic(auto, unfolding(crate::specs::Text::index_width))]
@@ -102,7 +103,7 @@ pub(crate) fn read_triangles(bytes: &[u8], vertices: u32, at: usize) -> Result<u
 fn read_entries(
     bytes: &[u8],
     vertices: u32,
-    edge: Edge,
+    edge: Side,
     at: usize,
     count: u32,
 ) -> Result<(), TileRefusal>
@@ -122,7 +123,7 @@ fn read_entries(
 pub(crate) fn read_edge(
     bytes: &[u8],
     vertices: u32,
-    edge: Edge,
+    edge: Side,
     at: usize,
 ) -> Result<usize, TileRefusal>
     requires { at < 2 ^ 40 }

@@ -15,8 +15,9 @@ ghost use Rattle.mesh_codec.specs.Layout.{
 };
 ghost use Rattle.mesh_codec.specs.Good.{IsTile};
 
+use crate::Array;
 use crate::number::long;
-use crate::{Array, Edge};
+use terrain_base::Side;
 
 /// The padding before the index data: they are aligned to four bytes where an index has four.
 #[tactic(auto, using(crate::proofs::Texts::padding_narrow, crate::proofs::Texts::padding_even, crate::proofs::Texts::padding_odd))]
@@ -144,14 +145,14 @@ pub(crate) fn extensions_start(bytes: &[u8]) -> usize
 }
 
 /// Where the list of an edge begins.
-pub(crate) fn edge_start(bytes: &[u8], edge: Edge) -> usize
+pub(crate) fn edge_start(bytes: &[u8], edge: Side) -> usize
     requires { IsTile bytes.now }
     ensures { result ≡ edge_at bytes.now edge }
 {
     match edge {
-        Edge::West => west_start(bytes),
-        Edge::South => south_start(bytes),
-        Edge::East => east_start(bytes),
-        Edge::North => north_start(bytes),
+        Side::West => west_start(bytes),
+        Side::South => south_start(bytes),
+        Side::East => east_start(bytes),
+        Side::North => north_start(bytes),
     }
 }

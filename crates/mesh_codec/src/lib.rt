@@ -4,7 +4,6 @@
 mod array;
 mod building;
 mod codes;
-mod edge;
 mod edge_indexes;
 mod encoding;
 mod extension;
@@ -25,7 +24,6 @@ mod vertex_codes;
 mod view;
 
 pub use codes::Codes;
-pub use edge::Edge;
 pub use edge_indexes::EdgeIndexes;
 pub use encoding::encode;
 pub use extensions::{Extension, Extensions};

@@ -2,10 +2,10 @@
 ghost use Rattle.std.specs.Prelude.{◌≡◌, ◌+◌, ◌-◌, ◌^◌, ◌<◌, ◌≤◌, ◌++◌, ◌∷◌, [], length, All, OnOk, OnErr, slice_get, Some};
 ghost use Rattle.mesh_codec.specs.Mesh.{IsVertex, IsTriangle, IsMesh, edge_of, empty_mesh, with_edge};
 
-use crate::{Codes, Edge};
+use crate::Codes;
 use std::alloc::Global;
 use std::marker::Model;
-use terrain_base::{Indexes, NoMemory};
+use terrain_base::{Indexes, NoMemory, Side};
 
 /// The vertices, triangles and edge lists of a tile. Each vertex has codes from 0 to 32767, and each index
 /// is below the number of vertices.
@@ -87,17 +87,17 @@ impl CodeMesh {
     }
 
     /// Adds a vertex at the end of an edge's list.
-    pub fn add_edge(&mut self, edge: Edge, vertex: u32) -> Result<(), NoMemory>
+    pub fn add_edge(&mut self, edge: Side, vertex: u32) -> Result<(), NoMemory>
         requires vertex { vertex < length self.old.vertices }
         requires room { length (edge_of self.old edge) < 2 ^ 32 - 1 }
         ensures ok { OnOk result (self.new ≡ with_edge self.old edge vertex) }
         ensures err { OnErr result (self.new ≡ self.old) }
     {
         match edge {
-            Edge::West => self.west.push(vertex)?,
-            Edge::South => self.south.push(vertex)?,
-            Edge::East => self.east.push(vertex)?,
-            Edge::North => self.north.push(vertex)?,
+            Side::West => self.west.push(vertex)?,
+            Side::South => self.south.push(vertex)?,
+            Side::East => self.east.push(vertex)?,
+            Side::North => self.north.push(vertex)?,
         }
         Ok(())
     }
@@ -138,16 +138,16 @@ impl CodeMesh {
     }
 
     /// The vertices of an edge's list.
-    pub fn edge(&self, edge: Edge) -> &[u32]
+    pub fn edge(&self, edge: Side) -> &[u32]
         ensures list { result.now ≡ edge_of self.now edge }
         ensures in_range { All (λ vertex. vertex < length self.now.vertices) result.now }
         ensures few { length result.now < 2 ^ 32 }
     {
         match edge {
-            Edge::West => &self.west,
-            Edge::South => &self.south,
-            Edge::East => &self.east,
-            Edge::North => &self.north,
+            Side::West => &self.west,
+            Side::South => &self.south,
+            Side::East => &self.east,
+            Side::North => &self.north,
         }
     }
 }

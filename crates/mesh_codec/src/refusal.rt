@@ -1,5 +1,5 @@
 // Why bytes are no tile.
-use crate::Edge;
+use terrain_base::Side;
 use thiserror::Error;
 
 /// An array of codes, in the order of the arrays.
@@ -25,7 +25,7 @@ pub enum TileRefusal {
     IndexOutOfRange { k: u64 },
     /// The index at this place of an edge's list is no vertex.
     #[error("edge index {k} too large")]
-    EdgeIndexTooLarge { edge: Edge, k: u32 },
+    EdgeIndexTooLarge { edge: Side, k: u32 },
     /// The extension at this offset does not fit.
     #[error("extension truncated at {at}")]
     ExtensionTruncated { at: u64 },

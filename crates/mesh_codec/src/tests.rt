@@ -5,9 +5,9 @@ ghost use Rattle.terrain_base.specs.FirstUse.{IsByFirstUse};
 ghost use Rattle.mesh_codec.specs.Text.{mark_after};
 
 use crate::number::{put_double, put_long, put_short};
-use crate::{Array, CodeMesh, Codes, Edge, Header, TileRefusal, TileView, encode};
+use crate::{Array, CodeMesh, Codes, Header, TileRefusal, TileView, encode};
 use std::alloc::Global;
-use terrain_base::{Indexes, NoMemory};
+use terrain_base::{Indexes, NoMemory, Side};
 
 /// The words of a tile of at most 65536 vertices.
 #[derive(Clone, Copy)]
@@ -200,7 +200,7 @@ fn add_triangle(mesh: &mut CodeMesh, a: u32, b: u32, c: u32) -> Result<(), NoMem
 }
 
 /// Adds a vertex along an edge, where it is one.
-fn add_edge(mesh: &mut CodeMesh, edge: Edge, vertex: u32) -> Result<(), NoMemory> {
+fn add_edge(mesh: &mut CodeMesh, edge: Side, vertex: u32) -> Result<(), NoMemory> {
     if vertex < mesh.vertices() && mesh.edge(edge).len() < 100 {
         mesh.add_edge(edge, vertex)?;
     }
@@ -217,10 +217,10 @@ fn flat_mesh(alloc: Global) -> Result<CodeMesh, NoMemory> {
         add_triangle(&mut mesh, a, b, c)?;
     }
     for (edge, first, last) in [
-        (Edge::West, 0, 6),
-        (Edge::South, 0, 3),
-        (Edge::East, 3, 5),
-        (Edge::North, 6, 5),
+        (Side::West, 0, 6),
+        (Side::South, 0, 3),
+        (Side::East, 3, 5),
+        (Side::North, 6, 5),
     ] {
         add_edge(&mut mesh, edge, first)?;
         add_edge(&mut mesh, edge, last)?;
@@ -262,10 +262,10 @@ fn the_flat_tile_has_its_codes(rt: HostRuntime) {
         );
     }
     for (edge, first, last) in [
-        (Edge::West, 0, 6),
-        (Edge::South, 0, 3),
-        (Edge::East, 3, 5),
-        (Edge::North, 6, 5),
+        (Side::West, 0, 6),
+        (Side::South, 0, 3),
+        (Side::East, 3, 5),
+        (Side::North, 6, 5),
     ] {
         let mut list = view.edge(edge);
         assert_eq!(rt; list.next(), Some(first));
@@ -284,7 +284,7 @@ fn a_mesh_is_rebuilt_and_encoded(rt: HostRuntime) {
     assert_eq!(rt; mesh.triangles().len(), 12);
     let flat = flat_mesh(rt.alloc()).expect(&rt, "memory");
     assert!(rt; mesh.triangles() == flat.triangles());
-    assert!(rt; mesh.edge(Edge::North) == flat.edge(Edge::North));
+    assert!(rt; mesh.edge(Side::North) == flat.edge(Side::North));
     if is_encodable(&mesh) {
         let encoded = encode(rt.alloc(), &HEADER, &mesh).expect(&rt, "memory");
         assert!(rt; encoded.as_slice() == bytes.as_slice());
@@ -410,7 +410,7 @@ fn each_part_is_refused_at_its_place(rt: HostRuntime) {
             226,
             9,
             TileRefusal::EdgeIndexTooLarge {
-                edge: Edge::West,
+                edge: Side::West,
                 k: 0,
             },
         ),
@@ -418,7 +418,7 @@ fn each_part_is_refused_at_its_place(rt: HostRuntime) {
             252,
             9,
             TileRefusal::EdgeIndexTooLarge {
-                edge: Edge::North,
+                edge: Side::North,
                 k: 1,
             },
         ),

@@ -3,13 +3,14 @@ ghost use Rattle.std.specs.Prelude.{◌≡◌, ◌+◌, ◌^◌, ◌<◌, ◌≤
 ghost use Rattle.std.specs.Result.{result_err};
 ghost use Rattle.mesh_codec.specs.Refusal.{first_of, conditions_of, tile_refusal_of};
 
+use crate::TileRefusal;
 use crate::array::read_vertices;
 use crate::extension::read_extensions;
 use crate::index::{read_edge, read_triangles};
 use crate::layout::index_data;
 use crate::number::long;
 use crate::part::read_part;
-use crate::{Edge, TileRefusal};
+use terrain_base::Side;
 
 /// Refuses the first part that is wrong.
 #[tactic(auto, using(crate::proofs::First::all_first), unfolding(crate::specs::Layout::vertices_in, crate::specs::Layout::triangles_in, crate::specs::Layout::west_at, crate::specs::Layout::south_at, crate::specs::Layout::east_at, crate::specs::Layout::north_at, crate::specs::Layout::extensions_at))]
@@ -21,10 +22,10 @@ fn read_parts(bytes: &[u8]) -> Result<(), TileRefusal>
     let vertices = long(bytes, 88);
     read_vertices(bytes, vertices)?;
     let west = read_triangles(bytes, vertices, index_data(vertices))?;
-    let south = read_edge(bytes, vertices, Edge::West, west)?;
-    let east = read_edge(bytes, vertices, Edge::South, south)?;
-    let north = read_edge(bytes, vertices, Edge::East, east)?;
-    let extensions = read_edge(bytes, vertices, Edge::North, north)?;
+    let south = read_edge(bytes, vertices, Side::West, west)?;
+    let east = read_edge(bytes, vertices, Side::South, south)?;
+    let north = read_edge(bytes, vertices, Side::East, east)?;
+    let extensions = read_edge(bytes, vertices, Side::North, north)?;
     read_extensions(bytes, extensions)
 }
 

@@ -23,10 +23,10 @@ use crate::layout::{triangle_number, vertex_number};
 use crate::tile::read_tile;
 use crate::triangles::Triangles;
 use crate::vertex_codes::VertexCodes;
-use crate::{CodeMesh, Edge, Header, TileRefusal};
+use crate::{CodeMesh, Header, TileRefusal};
 use std::alloc::Global;
 use std::marker::Model;
-use terrain_base::NoMemory;
+use terrain_base::{NoMemory, Side};
 
 /// A tile, read where its bytes lie. It is seen as its bytes.
 #[derive(Drop)]
@@ -101,7 +101,7 @@ impl<'a> TileView<'a> {
     }
 
     /// The vertices along an edge.
-    pub fn edge(&self, edge: Edge) -> EdgeIndexes<'a>
+    pub fn edge(&self, edge: Side) -> EdgeIndexes<'a>
         ensures list { result ≡ edge_list self.now edge }
         ensures in_range { All (λ vertex. vertex < vertices_in self.now) result }
         ensures few { length result < 2 ^ 32 }
@@ -124,10 +124,10 @@ impl<'a> TileView<'a> {
         let mut mesh = CodeMesh::empty(alloc);
         add_vertices(&mut mesh, self.vertex_codes())?;
         add_triangles(&mut mesh, self.triangles())?;
-        add_list(&mut mesh, Edge::West, self.edge(Edge::West))?;
-        add_list(&mut mesh, Edge::South, self.edge(Edge::South))?;
-        add_list(&mut mesh, Edge::East, self.edge(Edge::East))?;
-        add_list(&mut mesh, Edge::North, self.edge(Edge::North))?;
+        add_list(&mut mesh, Side::West, self.edge(Side::West))?;
+        add_list(&mut mesh, Side::South, self.edge(Side::South))?;
+        add_list(&mut mesh, Side::East, self.edge(Side::East))?;
+        add_list(&mut mesh, Side::North, self.edge(Side::North))?;
         Ok(mesh)
     }
 }

@@ -7,7 +7,7 @@ use Rattle.polynomial.proofs.Expressions.{var, add, mul}
 use Rattle.polynomial.proofs.NormalForm.{by_ring}
 use Rattle.polynomial.proofs.Signs.{times_pos}
 use Rattle.mesh_plane.specs.declared.corner.Tri.{Tri}
-use Rattle.mesh_plane.specs.Plane.{Point, point, side_of, doubled_area, Holds}
+use Rattle.mesh_plane.specs.Plane.{Point, point, side_of, doubled_area, TriangleHolds}
 use Rattle.mesh_plane.specs.Surface.{lift_of, SameHeight}
 use Rattle.mesh_plane.specs.Triangles.{Triple}
 use Rattle.mesh_plane.specs.Fan.{Rect, InRect, InsideRect}
@@ -58,7 +58,7 @@ module _ {A : Type 0} (at : A → Point) (z : A → ℤ) where
         (mul (mul (var 0) (mul (var 0) (var 0))) (mul (var 1) (var 2))) (s ∷ m ∷ d ∷ []) refl)
 
     abbrev Same : Tri → Tri → Type 0
-    Same t u = Holds s x y t → Holds s x y u → SameHeight s x y t u
+    Same t u = TriangleHolds s x y t → TriangleHolds s x y u → SameHeight s x y t u
 
     each_out : (t : Triple A) (ts : List (Triple A))
         → (Within (scaled at z s) t (point x y)

@@ -7,7 +7,9 @@ use Rattle.polynomial.proofs.Expressions.{var, num, add, mul}
 use Rattle.polynomial.proofs.NormalForm.{by_ring}
 use Rattle.polynomial.proofs.Signs.{factor_nonneg}
 use Rattle.mesh_plane.specs.Plane.{Point}
-use Rattle.mesh_plane.specs.Triangles.{Triple, fan, Side, South, East, North, West, Outer}
+use Rattle.terrain_base.specs.declared.side.Side.{Side}
+use Rattle.terrain_base.specs.declared.side.Side.TheVariants.{South, East, North, West}
+use Rattle.mesh_plane.specs.Triangles.{Triple, fan, Outer}
 use Rattle.mesh_plane.specs.Fan.{Rect, InsideRect, Ring, IsRing, Follow, south_of, east_of, north_of, west_of, round}
 use Rattle.mesh_plane.specs.Strip.{across}
 use Rattle.mesh_plane.proofs.Turns.{turn}

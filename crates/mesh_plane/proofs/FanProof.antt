@@ -2,7 +2,9 @@
 use Rattle.std.proofs.Common.{ap, List, [], ◌∷◌}
 use Rattle.std.specs.Prelude.{ℤ, pos, ◌*ℤ◌, ◌≤ℤ◌}
 use Rattle.mesh_plane.specs.Plane.{Point, point}
-use Rattle.mesh_plane.specs.Triangles.{fan, Side, South, East, North, West}
+use Rattle.terrain_base.specs.declared.side.Side.{Side}
+use Rattle.terrain_base.specs.declared.side.Side.TheVariants.{South, East, North, West}
+use Rattle.mesh_plane.specs.Triangles.{fan}
 use Rattle.mesh_plane.specs.Fan.{Rect, grown, InRect, InsideRect, ComesAfter, Follow, Ring, IsRing, south_of, east_of, north_of, west_of, round, FanLaw}
 use Rattle.mesh_plane.proofs.Rings.{fan_tiles}
 use Rattle.mesh_plane.proofs.Scales.{scaled, grow_lt, tiles_at_each_scale}

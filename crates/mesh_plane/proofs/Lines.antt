@@ -5,7 +5,9 @@ use Rattle.std.proofs.lemmas.Int.{ints}
 use Rattle.polynomial.proofs.Expressions.{var, sub, mul}
 use Rattle.polynomial.proofs.NormalForm.{by_ring}
 use Rattle.mesh_plane.specs.Plane.{Point}
-use Rattle.mesh_plane.specs.Triangles.{Triple, Side, South, East, North, West, Outer, outer_end, inner_end}
+use Rattle.terrain_base.specs.declared.side.Side.{Side}
+use Rattle.terrain_base.specs.declared.side.Side.TheVariants.{South, East, North, West}
+use Rattle.mesh_plane.specs.Triangles.{Triple, Outer, outer_end, inner_end}
 use Rattle.mesh_plane.specs.Fan.{ComesAfter, Follow}
 use Rattle.mesh_plane.specs.Strip.{across}
 use Rattle.mesh_plane.proofs.Turns.{turn, turned}

@@ -4,7 +4,8 @@ use Rattle.std.proofs.Common.{◌≡◌, ℕ, zero, suc, ◌+◌, ◌*◌, ◌<�
 use Rattle.std.specs.Prelude.{ℤ, ◌-ℤ◌, ◌<ℤ◌, if◌then◌else◌}
 use Rattle.std.proofs.lemmas.Int.{ints}
 use Rattle.mesh_plane.specs.Plane.{Point, point}
-use Rattle.mesh_plane.specs.Triangles.{Triple, East, Outer, Inner}
+use Rattle.terrain_base.specs.declared.side.Side.TheVariants.{East}
+use Rattle.mesh_plane.specs.Triangles.{Triple, Outer, Inner}
 use Rattle.mesh_plane.specs.Fan.{InRect, InsideRect, round, south_of, east_of, north_of, west_of}
 use Rattle.mesh_plane.specs.Quadtree.{line_of, Midpoints, leaf_ring, leaf, smallest, leaves}
 use Rattle.mesh_plane.proofs.Tilings.{Tiling}

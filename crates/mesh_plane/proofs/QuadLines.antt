@@ -5,7 +5,8 @@ use Rattle.std.specs.Prelude.{ℤ, ◌≤ℤ◌, ◌<ℤ◌, if◌then◌else◌
 use Rattle.std.proofs.lemmas.Int.{ints}
 use Rattle.polynomial.proofs.Signs.{by_le_z}
 use Rattle.mesh_plane.specs.Plane.{Point, point}
-use Rattle.mesh_plane.specs.Triangles.{Triple, South, West}
+use Rattle.terrain_base.specs.declared.side.Side.TheVariants.{South, West}
+use Rattle.mesh_plane.specs.Triangles.{Triple}
 use Rattle.mesh_plane.specs.Quadtree.{line_of, midpoint}
 use Rattle.mesh_plane.proofs.Edges.{Edge, Met, met_left, met_right, Shows, edge_flip, chain}
 use Rattle.mesh_plane.proofs.FrameHeights.{line_on}

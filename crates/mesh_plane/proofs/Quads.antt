@@ -5,7 +5,9 @@ use Rattle.std.proofs.lemmas.Int.{ints}
 use Rattle.std.proofs.lemmas.Nat.{pow_pos}
 use Rattle.polynomial.proofs.Signs.{by_le_z}
 use Rattle.mesh_plane.specs.Plane.{Point, point}
-use Rattle.mesh_plane.specs.Triangles.{Triple, Side, South, East, North, West, Step, Outer, Inner}
+use Rattle.terrain_base.specs.declared.side.Side.{Side}
+use Rattle.terrain_base.specs.declared.side.Side.TheVariants.{South, East, North, West}
+use Rattle.mesh_plane.specs.Triangles.{Triple, Step, Outer, Inner}
 use Rattle.mesh_plane.specs.Fan.{Rect, InRect, InsideRect, ComesAfter, Follow, IsRing}
 use Rattle.mesh_plane.specs.Quadtree.{line_of, halves, midpoint, Midpoints, leaf_ring, leaf, smallest, leaves}
 use Rattle.mesh_plane.proofs.Turns.{turned_back}

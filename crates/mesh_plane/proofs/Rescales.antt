@@ -6,7 +6,7 @@ use Rattle.std.proofs.lemmas.Int.{ints}
 use Rattle.polynomial.proofs.Expressions.{Expr, var, add, mul}
 use Rattle.polynomial.proofs.NormalForm.{by_ring}
 use Rattle.mesh_plane.specs.declared.corner.Tri.{Tri}
-use Rattle.mesh_plane.specs.Plane.{Point, side_of, doubled_area, IsCounterClockwise, Holds, HoldsStrictly, IsOnTile, IsTileTri}
+use Rattle.mesh_plane.specs.Plane.{Point, side_of, doubled_area, IsCounterClockwise, TriangleHolds, TriangleHoldsInside, IsOnTile, IsTileTri}
 use Rattle.mesh_plane.specs.Surface.{lift_of, SameHeight}
 use Rattle.mesh_plane.specs.Cover.{Covers, HeldOnce, OneHeight}
 use Rattle.mesh_plane.specs.Triangles.{Triple}
@@ -87,30 +87,30 @@ module _ (at : ℕ → Point) (z w : ℕ → ℤ) (n k m : ℤ) (far : pos 1 ≤
   ccw_new (t ∷ ts) h = (h.0, ccw_new ts h.1)
 
   module _ (s x y : ℤ) where
-    held_same : (t : Triple ℕ) → Holds s x y (old t) → Holds s x y (new t)
+    held_same : (t : Triple ℕ) → TriangleHolds s x y (old t) → TriangleHolds s x y (new t)
     held_same t h = record { ab = h.ab; bc = h.bc; ca = h.ca }
 
-    held_back : (t : Triple ℕ) → Holds s x y (new t) → Holds s x y (old t)
+    held_back : (t : Triple ℕ) → TriangleHolds s x y (new t) → TriangleHolds s x y (old t)
     held_back t h = record { ab = h.ab; bc = h.bc; ca = h.ca }
 
-    strictly_back : (t : Triple ℕ) → HoldsStrictly s x y (new t) → HoldsStrictly s x y (old t)
+    strictly_back : (t : Triple ℕ) → TriangleHoldsInside s x y (new t) → TriangleHoldsInside s x y (old t)
     strictly_back t h = record { ab = h.ab; bc = h.bc; ca = h.ca }
 
-    held_new : (ts : List (Triple ℕ)) → Any (Holds s x y) (map old ts) → Any (Holds s x y) (map new ts)
-    held_new [] a = absurd (any_none (Holds s x y) a)
-    held_new (t ∷ ts) a = go (any_cases (Holds s x y) (old t) (map old ts) a) (held_new ts)
+    held_new : (ts : List (Triple ℕ)) → Any (TriangleHolds s x y) (map old ts) → Any (TriangleHolds s x y) (map new ts)
+    held_new [] a = absurd (any_none (TriangleHolds s x y) a)
+    held_new (t ∷ ts) a = go (any_cases (TriangleHolds s x y) (old t) (map old ts) a) (held_new ts)
       where
-        go : Holds s x y (old t) ⊎ Any (Holds s x y) (map old ts)
-            → (Any (Holds s x y) (map old ts) → Any (Holds s x y) (map new ts))
-            → Any (Holds s x y) (map new (t ∷ ts))
-        go (inl i) f = any_here (Holds s x y) (new t) (map new ts) (held_same t i)
-        go (inr i) f = any_there (Holds s x y) (new t) (map new ts) (f i)
+        go : TriangleHolds s x y (old t) ⊎ Any (TriangleHolds s x y) (map old ts)
+            → (Any (TriangleHolds s x y) (map old ts) → Any (TriangleHolds s x y) (map new ts))
+            → Any (TriangleHolds s x y) (map new (t ∷ ts))
+        go (inl i) f = any_here (TriangleHolds s x y) (new t) (map new ts) (held_same t i)
+        go (inr i) f = any_there (TriangleHolds s x y) (new t) (map new ts) (f i)
 
     abbrev Apart : Tri → Tri → Type 0
-    Apart t u = ¬ (HoldsStrictly s x y t × HoldsStrictly s x y u)
+    Apart t u = ¬ (TriangleHoldsInside s x y t × TriangleHoldsInside s x y u)
 
     abbrev Same : Tri → Tri → Type 0
-    Same t u = Holds s x y t → Holds s x y u → SameHeight s x y t u
+    Same t u = TriangleHolds s x y t → TriangleHolds s x y u → SameHeight s x y t u
 
     apart_each : (t : Triple ℕ) (ts : List (Triple ℕ)) → AllByRecursion (Apart (old t)) (map old ts)
         → AllByRecursion (Apart (new t)) (map new ts)

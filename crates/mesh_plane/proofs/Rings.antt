@@ -4,7 +4,9 @@ use Rattle.std.specs.Prelude.{ℤ, pos, ◌-ℤ◌, ◌*ℤ◌, ◌<ℤ◌}
 use Rattle.std.proofs.lemmas.Int.{ints}
 use Rattle.polynomial.proofs.Signs.{by_le_z}
 use Rattle.mesh_plane.specs.Plane.{Point, point}
-use Rattle.mesh_plane.specs.Triangles.{Triple, fan, Side, South, East, North, West, Outer}
+use Rattle.terrain_base.specs.declared.side.Side.{Side}
+use Rattle.terrain_base.specs.declared.side.Side.TheVariants.{South, East, North, West}
+use Rattle.mesh_plane.specs.Triangles.{Triple, fan, Outer}
 use Rattle.mesh_plane.specs.Fan.{Rect, InRect, InsideRect, Ring, IsRing, Follow, south_of, east_of, north_of, west_of, round}
 use Rattle.mesh_plane.specs.Strip.{across}
 use Rattle.mesh_plane.proofs.Turns.{turn}

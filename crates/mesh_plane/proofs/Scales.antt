@@ -8,7 +8,7 @@ use Rattle.polynomial.proofs.NormalForm.{by_ring}
 use Rattle.polynomial.proofs.Signs.{times_nonneg, times_pos, factor_nonneg, factor_pos}
 use Rattle.mesh_plane.specs.declared.corner.Corner.{Corner}
 use Rattle.mesh_plane.specs.declared.corner.Tri.{Tri}
-use Rattle.mesh_plane.specs.Plane.{Point, point, side_of, doubled_area, IsCounterClockwise, Holds, HoldsStrictly}
+use Rattle.mesh_plane.specs.Plane.{Point, point, side_of, doubled_area, IsCounterClockwise, TriangleHolds, TriangleHoldsInside}
 use Rattle.mesh_plane.specs.Triangles.{Triple}
 use Rattle.mesh_plane.specs.Cover.{HeldOnce, Tiles}
 use Rattle.mesh_plane.proofs.Turns.{turn, turned, side_scaled}
@@ -80,28 +80,28 @@ module _ {A : Type 0} (at : A → Point) (z : A → ℤ) where
     abbrev over_edge : A → A → ℤ
     over_edge k l = turn (scaled s k) (scaled s l) (point x y)
 
-    pub holds_in : (t : Triple A) → Holds s x y (placed t) → Within (scaled s) t (point x y)
+    pub holds_in : (t : Triple A) → TriangleHolds s x y (placed t) → Within (scaled s) t (point x y)
     holds_in t i = record {
       ab = nonneg_in s (edge t.a t.b) (over_edge t.a t.b) h (side_is t.a t.b) i.ab;
       bc = nonneg_in s (edge t.b t.c) (over_edge t.b t.c) h (side_is t.b t.c) i.bc;
       ca = nonneg_in s (edge t.c t.a) (over_edge t.c t.a) h (side_is t.c t.a) i.ca;
     }
 
-    pub holds_out : (t : Triple A) → Within (scaled s) t (point x y) → Holds s x y (placed t)
+    pub holds_out : (t : Triple A) → Within (scaled s) t (point x y) → TriangleHolds s x y (placed t)
     holds_out t i = record {
       ab = nonneg_out s (edge t.a t.b) (over_edge t.a t.b) h (side_is t.a t.b) i.ab;
       bc = nonneg_out s (edge t.b t.c) (over_edge t.b t.c) h (side_is t.b t.c) i.bc;
       ca = nonneg_out s (edge t.c t.a) (over_edge t.c t.a) h (side_is t.c t.a) i.ca;
     }
 
-    pub strictly_in : (t : Triple A) → HoldsStrictly s x y (placed t) → Inside (scaled s) t (point x y)
+    pub strictly_in : (t : Triple A) → TriangleHoldsInside s x y (placed t) → Inside (scaled s) t (point x y)
     strictly_in t i = record {
       ab = pos_in s (edge t.a t.b) (over_edge t.a t.b) h (side_is t.a t.b) i.ab;
       bc = pos_in s (edge t.b t.c) (over_edge t.b t.c) h (side_is t.b t.c) i.bc;
       ca = pos_in s (edge t.c t.a) (over_edge t.c t.a) h (side_is t.c t.a) i.ca;
     }
 
-    pub strictly_out : (t : Triple A) → Inside (scaled s) t (point x y) → HoldsStrictly s x y (placed t)
+    pub strictly_out : (t : Triple A) → Inside (scaled s) t (point x y) → TriangleHoldsInside s x y (placed t)
     strictly_out t i = record {
       ab = pos_out s (edge t.a t.b) (over_edge t.a t.b) h (side_is t.a t.b) i.ab;
       bc = pos_out s (edge t.b t.c) (over_edge t.b t.c) h (side_is t.b t.c) i.bc;
@@ -109,23 +109,23 @@ module _ {A : Type 0} (at : A → Point) (z : A → ℤ) where
     }
 
     -- ---- lists
-    pub any_held : (ts : List (Triple A)) → Held (scaled s) (point x y) ts → Any (Holds s x y) (map placed ts)
+    pub any_held : (ts : List (Triple A)) → Held (scaled s) (point x y) ts → Any (TriangleHolds s x y) (map placed ts)
     any_held [] i = elim i [ ]
-    any_held (t ∷ ts) (inl i) = any_here (Holds s x y) (placed t) (map placed ts) (holds_out t i)
-    any_held (t ∷ ts) (inr i) = any_there (Holds s x y) (placed t) (map placed ts) (any_held ts i)
+    any_held (t ∷ ts) (inl i) = any_here (TriangleHolds s x y) (placed t) (map placed ts) (holds_out t i)
+    any_held (t ∷ ts) (inr i) = any_there (TriangleHolds s x y) (placed t) (map placed ts) (any_held ts i)
 
-    pub held_any : (ts : List (Triple A)) → Any (Holds s x y) (map placed ts) → Held (scaled s) (point x y) ts
-    held_any [] i = any_none (Holds s x y) i
-    held_any (t ∷ ts) i = go (any_cases (Holds s x y) (placed t) (map placed ts) i) (held_any ts)
+    pub held_any : (ts : List (Triple A)) → Any (TriangleHolds s x y) (map placed ts) → Held (scaled s) (point x y) ts
+    held_any [] i = any_none (TriangleHolds s x y) i
+    held_any (t ∷ ts) i = go (any_cases (TriangleHolds s x y) (placed t) (map placed ts) i) (held_any ts)
       where
-        go : Holds s x y (placed t) ⊎ Any (Holds s x y) (map placed ts)
-            → (Any (Holds s x y) (map placed ts) → Held (scaled s) (point x y) ts)
+        go : TriangleHolds s x y (placed t) ⊎ Any (TriangleHolds s x y) (map placed ts)
+            → (Any (TriangleHolds s x y) (map placed ts) → Held (scaled s) (point x y) ts)
             → Held (scaled s) (point x y) (t ∷ ts)
         go (inl j) f = inl (holds_in t j)
         go (inr j) f = inr (f j)
 
     abbrev NotBoth : Tri → Tri → Type 0
-    NotBoth t u = ¬ (HoldsStrictly s x y t × HoldsStrictly s x y u)
+    NotBoth t u = ¬ (TriangleHoldsInside s x y t × TriangleHoldsInside s x y u)
 
     not_both : (t : Triple A) (ts : List (Triple A))
         → (Inside (scaled s) t (point x y) → ¬ HeldInside (scaled s) (point x y) ts)

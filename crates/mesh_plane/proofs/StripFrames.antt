@@ -3,7 +3,9 @@ use Rattle.std.proofs.Common.{◌≡◌, refl, ap, arith, ◌∙◌, List, [], �
 use Rattle.std.specs.Prelude.{ℤ, ◌-ℤ◌, ◌*ℤ◌}
 use Rattle.std.proofs.lemmas.Int.{ints, by_lt_z}
 use Rattle.mesh_plane.specs.Plane.{Point, point}
-use Rattle.mesh_plane.specs.Triangles.{Triple, Side, South, East, North, West, Step, strip, outer_end, inner_end}
+use Rattle.terrain_base.specs.declared.side.Side.{Side}
+use Rattle.terrain_base.specs.declared.side.Side.TheVariants.{South, East, North, West}
+use Rattle.mesh_plane.specs.Triangles.{Triple, Step, strip, outer_end, inner_end}
 use Rattle.mesh_plane.specs.Fan.{Rect, InRect, InsideRect}
 use Rattle.mesh_plane.specs.Strip.{across, IsOutside, Ascend}
 use Rattle.mesh_plane.proofs.Turns.{turn, turned_back}

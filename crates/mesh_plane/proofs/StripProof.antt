@@ -5,7 +5,9 @@ use Rattle.std.proofs.lemmas.Int.{ints}
 use Rattle.polynomial.proofs.Signs.{times_nonneg, factor_nonneg, factor_pos, weaken}
 use Rattle.mesh_plane.specs.declared.corner.Corner.{Corner}
 use Rattle.mesh_plane.specs.Plane.{Point, point, place_at, side_of}
-use Rattle.mesh_plane.specs.Triangles.{Side, South, East, North, West, Step, Outer, Inner, strip, outer_end, inner_end}
+use Rattle.terrain_base.specs.declared.side.Side.{Side}
+use Rattle.terrain_base.specs.declared.side.Side.TheVariants.{South, East, North, West}
+use Rattle.mesh_plane.specs.Triangles.{Step, Outer, Inner, strip, outer_end, inner_end}
 use Rattle.mesh_plane.specs.Strip.{along, across, IsOutside, Ascend, InQuad, InStrip, StripLaw}
 use Rattle.mesh_plane.proofs.Turns.{turn, turned_back, side_scaled}
 use Rattle.mesh_plane.proofs.Tilings.{tiling_same}

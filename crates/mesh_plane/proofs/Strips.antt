@@ -4,7 +4,9 @@ use Rattle.std.proofs.Common.{◌≡◌, refl, ap, arith, ◌∙◌, List, [], �
 use Rattle.std.specs.Prelude.{ℤ, pos, ◌-ℤ◌, ◌*ℤ◌, ◌≤ℤ◌, ◌<ℤ◌}
 use Rattle.std.proofs.lemmas.Int.{ints}
 use Rattle.mesh_plane.specs.Plane.{Point}
-use Rattle.mesh_plane.specs.Triangles.{Triple, Side, South, East, North, West, Step, Outer, Inner, cornered, strip, outer_end, inner_end}
+use Rattle.terrain_base.specs.declared.side.Side.{Side}
+use Rattle.terrain_base.specs.declared.side.Side.TheVariants.{South, East, North, West}
+use Rattle.mesh_plane.specs.Triangles.{Triple, Step, Outer, Inner, cornered, strip, outer_end, inner_end}
 use Rattle.mesh_plane.specs.Strip.{across, IsOutside, Ascend}
 use Rattle.mesh_plane.proofs.Turns.{turn}
 use Rattle.mesh_plane.proofs.Tilings.{Tiling, tiling_same}

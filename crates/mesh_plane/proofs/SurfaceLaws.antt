@@ -7,7 +7,7 @@ use Rattle.polynomial.proofs.NormalForm.{by_ring}
 use Rattle.polynomial.proofs.Signs.{times_nonneg, times_pos, factor_nonneg, weaken}
 use Rattle.mesh_plane.specs.declared.corner.Corner.{Corner}
 use Rattle.mesh_plane.specs.declared.corner.Tri.{Tri}
-use Rattle.mesh_plane.specs.Plane.{Point, point, side_of, doubled_area, Holds, IsCounterClockwise}
+use Rattle.mesh_plane.specs.Plane.{Point, point, side_of, doubled_area, TriangleHolds, IsCounterClockwise}
 use Rattle.mesh_plane.specs.Surface.{lift_of, gap_over, gap_under, HasHeight, Surface}
 use Rattle.mesh_plane.specs.Cover.{Covers}
 use Rattle.mesh_plane.specs.SurfaceLaw.{AreHeightsWithin, IsSurfaceNear, IsTriIn, part_of, SurfaceLaw}
@@ -45,14 +45,14 @@ lift_finer t k s x y =
     +ℤ t.c.h *ℤ i) (sym (side_finer t.a t.b k s x y))
     ∙ weighed_sum k t.a.h (side_of t.b t.c s x y) t.b.h (side_of t.c t.a s x y) t.c.h (side_of t.a t.b s x y)
 
-holds_finer : (t : Tri) (k s x y : ℤ) → pos 1 ≤ℤ k → Holds s x y t → Holds (k *ℤ s) (k *ℤ x) (k *ℤ y) t
+holds_finer : (t : Tri) (k s x y : ℤ) → pos 1 ≤ℤ k → TriangleHolds s x y t → TriangleHolds (k *ℤ s) (k *ℤ x) (k *ℤ y) t
 holds_finer t k s x y h i = record {
   ab = nonneg_in k (side_of t.a t.b s x y) (side_of t.a t.b (k *ℤ s) (k *ℤ x) (k *ℤ y)) h (side_finer t.a t.b k s x y) i.ab;
   bc = nonneg_in k (side_of t.b t.c s x y) (side_of t.b t.c (k *ℤ s) (k *ℤ x) (k *ℤ y)) h (side_finer t.b t.c k s x y) i.bc;
   ca = nonneg_in k (side_of t.c t.a s x y) (side_of t.c t.a (k *ℤ s) (k *ℤ x) (k *ℤ y)) h (side_finer t.c t.a k s x y) i.ca;
 }
 
-holds_coarser : (t : Tri) (k s x y : ℤ) → pos 1 ≤ℤ k → Holds (k *ℤ s) (k *ℤ x) (k *ℤ y) t → Holds s x y t
+holds_coarser : (t : Tri) (k s x y : ℤ) → pos 1 ≤ℤ k → TriangleHolds (k *ℤ s) (k *ℤ x) (k *ℤ y) t → TriangleHolds s x y t
 holds_coarser t k s x y h i = record {
   ab = nonneg_out k (side_of t.a t.b s x y) (side_of t.a t.b (k *ℤ s) (k *ℤ x) (k *ℤ y)) h (side_finer t.a t.b k s x y) i.ab;
   bc = nonneg_out k (side_of t.b t.c s x y) (side_of t.b t.c (k *ℤ s) (k *ℤ x) (k *ℤ y)) h (side_finer t.b t.c k s x y) i.bc;
@@ -128,7 +128,7 @@ below m f g h i j l =
     (add (add (mul (var 1) (var 4)) (mul (var 2) (var 5))) (mul (var 3) (var 6))))
     (m ∷ f ∷ g ∷ h ∷ i ∷ j ∷ l ∷ []) refl
 
-held_between : (t : Tri) (s x y m n : ℤ) → AreHeightsWithin m n t → Holds s x y t
+held_between : (t : Tri) (s x y m n : ℤ) → AreHeightsWithin m n t → TriangleHolds s x y t
     → ((m *ℤ gap_under t s) ≤ℤ lift_of t s x y) × (lift_of t s x y ≤ℤ (n *ℤ gap_under t s))
 held_between t s x y m n w h =
     let i = side_of t.b t.c s x y in let j = side_of t.c t.a s x y in let l = side_of t.a t.b s x y in
@@ -178,7 +178,7 @@ near_moved t h m l d x hm hd e n =
 abbrev GapIsNear : Tri → ℤ → ℤ → ℤ → ℤ → ℤ → Type 0
 GapIsNear t s x y metres n = gap_over t s x y metres ≤ℤ (n *ℤ gap_under t s)
 
-gap_law : (ts : List Tri) (t : Tri) (s x y metres n : ℤ) → Covers ts → pos 1 ≤ℤ s → Contains ts t → Holds s x y t
+gap_law : (ts : List Tri) (t : Tri) (s x y metres n : ℤ) → Covers ts → pos 1 ≤ℤ s → Contains ts t → TriangleHolds s x y t
     → IsSurfaceNear ts s x y metres n ↔ GapIsNear t s x y metres n
 gap_law ts t s x y metres n c one i holds =
     let ccw : IsCounterClockwise t = subst IsCounterClockwise i.2 (c.counter_clockwise i.0 t i.1) in
@@ -247,8 +247,8 @@ side_convex a b s d n p q h k i j =
       times_nonneg n (side_of a b s q.u q.v) h j,
     )
 
-held_part : (t : Tri) (s d n : ℤ) (p q : Point) → pos 0 ≤ℤ n → n ≤ℤ d → Holds s p.u p.v t → Holds s q.u q.v t
-    → Holds (d *ℤ s) (part_of d n p q).u (part_of d n p q).v t
+held_part : (t : Tri) (s d n : ℤ) (p q : Point) → pos 0 ≤ℤ n → n ≤ℤ d → TriangleHolds s p.u p.v t → TriangleHolds s q.u q.v t
+    → TriangleHolds (d *ℤ s) (part_of d n p q).u (part_of d n p q).v t
 held_part t s d n p q h k i j = record {
   ab = side_convex t.a t.b s d n p q h k i.ab j.ab;
   bc = side_convex t.b t.c s d n p q h k i.bc j.bc;
@@ -313,7 +313,7 @@ mean_v t s x y =
     by_ring (add (add (mul (var 1) bc_expr) (mul (var 3) ca_expr)) (mul (var 5) ab_expr)) (mul (var 8) area_expr)
     (t.a.u ∷ t.a.v ∷ t.b.u ∷ t.b.v ∷ t.c.u ∷ t.c.v ∷ s ∷ x ∷ y ∷ []) refl
 
-held_in_box : (r : Rect) (t : Tri) (s x y : ℤ) → IsCounterClockwise t → IsTriIn r t → Holds s x y t
+held_in_box : (r : Rect) (t : Tri) (s x y : ℤ) → IsCounterClockwise t → IsTriIn r t → TriangleHolds s x y t
     → InRect (grown s r) (point x y)
 held_in_box r t s x y ccw c h =
     let d = doubled_area t in let sums = sides_sum t s x y in

@@ -7,7 +7,7 @@ use Rattle.polynomial.proofs.Expressions.{var, mul}
 use Rattle.polynomial.proofs.NormalForm.{by_ring}
 use Rattle.polynomial.proofs.Signs.{times_pos}
 use Rattle.mesh_plane.specs.declared.corner.Tri.{Tri}
-use Rattle.mesh_plane.specs.Plane.{doubled_area, IsCounterClockwise, Holds, IsTilePoint}
+use Rattle.mesh_plane.specs.Plane.{doubled_area, IsCounterClockwise, TriangleHolds, IsTilePoint}
 use Rattle.mesh_plane.specs.Surface.{lift_of, SameHeight, HasHeight, Surface}
 use Rattle.mesh_plane.specs.Cover.{Covers}
 use Rattle.mesh_plane.proofs.Heights.{cancelled}
@@ -29,7 +29,7 @@ surface_some ts s x y c h i =
 
 module _ (s x y m n k l : ℤ) (h : pos 1 ≤ℤ s) where
   abbrev At : ℤ → ℤ → Tri → Type 0
-  At over under t = Holds s x y t × HasHeight s x y over under t
+  At over under t = TriangleHolds s x y t × HasHeight s x y over under t
 
   -- two fractions of one height
   equal : (t u : Tri) → IsCounterClockwise t → IsCounterClockwise u → At m n t → At k l u
@@ -54,7 +54,7 @@ module _ (s x y m n k l : ℤ) (h : pos 1 ≤ℤ s) where
       (k ∷ s ∷ f ∷ d ∷ n ∷ []) refl)
 
   abbrev Same : Tri → Tri → Type 0
-  Same t u = Holds s x y t → Holds s x y u → SameHeight s x y t u
+  Same t u = TriangleHolds s x y t → TriangleHolds s x y u → SameHeight s x y t u
 
   later : (t : Tri) (ts : List Tri) → IsCounterClockwise t → AllByRecursion IsCounterClockwise ts
       → AllByRecursion (Same t) ts

@@ -3,7 +3,9 @@ use Rattle.std.specs.Prelude.{◌≡◌, ℤ, ◌*ℤ◌, ◌≤ℤ◌, ◌<ℤ�
 use Rattle.mesh_plane.specs.declared.corner.Corner.{Corner}
 use Rattle.mesh_plane.specs.Plane.{Point, point}
 use Rattle.mesh_plane.specs.Cover.{Tiles}
-use Rattle.mesh_plane.specs.Triangles.{tri_of, fan, Side, South, East, North, West}
+use Rattle.terrain_base.specs.declared.side.Side.{Side}
+use Rattle.terrain_base.specs.declared.side.Side.TheVariants.{South, East, North, West}
+use Rattle.mesh_plane.specs.Triangles.{tri_of, fan}
 
 -- a rectangle with sides along the axes
 pub record Rect : Type 0 where

@@ -28,13 +28,13 @@ abbrev pub IsCounterClockwise : Tri → Type 0
 IsCounterClockwise t = pos 0 <ℤ doubled_area t
 
 -- the point (x/s, y/s) lies in the closed triangle
-pub record Holds (s x y : ℤ) (t : Tri) : Type 0 where
+pub record TriangleHolds (s x y : ℤ) (t : Tri) : Type 0 where
   pub ab : pos 0 ≤ℤ side_of t.a t.b s x y
   pub bc : pos 0 ≤ℤ side_of t.b t.c s x y
   pub ca : pos 0 ≤ℤ side_of t.c t.a s x y
 
 -- the point (x/s, y/s) lies inside the triangle, on none of its sides
-pub record HoldsStrictly (s x y : ℤ) (t : Tri) : Type 0 where
+pub record TriangleHoldsInside (s x y : ℤ) (t : Tri) : Type 0 where
   pub ab : pos 0 <ℤ side_of t.a t.b s x y
   pub bc : pos 0 <ℤ side_of t.b t.c s x y
   pub ca : pos 0 <ℤ side_of t.c t.a s x y

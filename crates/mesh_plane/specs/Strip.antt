@@ -3,7 +3,9 @@ use Rattle.std.specs.Prelude.{◌≡◌, ℤ, pos, ◌≤ℤ◌, ◌<ℤ◌, Lis
 use Rattle.mesh_plane.specs.declared.corner.Corner.{Corner}
 use Rattle.mesh_plane.specs.Plane.{Point, point, side_of}
 use Rattle.mesh_plane.specs.Cover.{Tiles}
-use Rattle.mesh_plane.specs.Triangles.{tri_of, Side, South, East, North, West, Step, Outer, Inner, strip, outer_end, inner_end}
+use Rattle.terrain_base.specs.declared.side.Side.{Side}
+use Rattle.terrain_base.specs.declared.side.Side.TheVariants.{South, East, North, West}
+use Rattle.mesh_plane.specs.Triangles.{tri_of, Step, Outer, Inner, strip, outer_end, inner_end}
 
 -- where the point lies along the lines of a strip, and on which line it is
 abbrev pub along : Side → Point → ℤ

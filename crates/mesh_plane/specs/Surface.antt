@@ -2,7 +2,7 @@
 -- above 0.
 use Rattle.std.specs.Prelude.{◌≡◌, ℤ, pos, ◌+ℤ◌, ◌-ℤ◌, ◌*ℤ◌, ◌≤ℤ◌, ◌<ℤ◌, List, Any, unsigned_abs}
 use Rattle.mesh_plane.specs.declared.corner.Tri.{Tri}
-use Rattle.mesh_plane.specs.Plane.{side_of, doubled_area, Holds}
+use Rattle.mesh_plane.specs.Plane.{side_of, doubled_area, TriangleHolds}
 
 -- the height of the triangle's plane at the point (x/s, y/s) is lift_of over s times the doubled area: at
 -- each
@@ -24,7 +24,7 @@ HasHeight s x y over under t = lift_of t s x y *ℤ under ≡ over *ℤ (s *ℤ 
 -- its plane has that height there
 pub record Surface (ts : List Tri) (s x y over under : ℤ) : Type 0 where
   pub above_zero : pos 0 <ℤ under
-  pub shown : Any (λ t. Holds s x y t × HasHeight s x y over under t) ts
+  pub shown : Any (λ t. TriangleHolds s x y t × HasHeight s x y over under t) ts
 
 -- the size of a whole number
 abbrev pub size_of : ℤ → ℤ

@@ -1,5 +1,7 @@
 -- Lists of triangles over corners of any kind: fans round a point, and strips between two lines.
 use Rattle.std.specs.Prelude.{List, [], ◌∷◌}
+use Rattle.terrain_base.specs.declared.side.Side.{Side}
+use Rattle.terrain_base.specs.declared.side.Side.TheVariants.{West, South, East, North}
 use Rattle.mesh_plane.specs.declared.corner.Corner.{Corner}
 use Rattle.mesh_plane.specs.declared.corner.Tri.{Tri}
 
@@ -17,13 +19,6 @@ tri_of t = record { a = t.a; b = t.b; c = t.c }
 abbrev pub fan : {A : Type 0} → A → A → List A → List (Triple A)
 fan c o [] = []
 fan c o (r ∷ rs) = record { a = c; b = o; c = r } ∷ fan c r rs
-
--- the four sides of a square
-pub data Side : Type 0 where
-  South : Side
-  East : Side
-  North : Side
-  West : Side
 
 -- the next point of a strip lies on its outer line, or on its inner one
 pub data Step (A : Type 0) : Type 0 where

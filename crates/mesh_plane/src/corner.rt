@@ -19,7 +19,7 @@ pub struct Tri {
     pub c: Corner,
 }
 
-ghost use Rattle.mesh_plane.specs.Plane.{side_of, doubled_area, Holds};
+ghost use Rattle.mesh_plane.specs.Plane.{side_of, doubled_area, TriangleHolds};
 ghost use Rattle.mesh_plane.specs.Plane.{IsScale, IsTilePoint, IsOnTile, IsTileTri};
 
 /// A coordinate at a scale.
@@ -76,7 +76,7 @@ pub fn within(tri: &Tri, scale: i64, u: i64, v: i64) -> bool
     requires tri { IsTileTri tri.now }
     requires scale { IsScale scale }
     requires point { IsTilePoint scale u v }
-    ensures { IsTrue result ↔ Holds scale u v tri.now }
+    ensures { IsTrue result ↔ TriangleHolds scale u v tri.now }
 {
     is_left(&tri.a, &tri.b, scale, u, v)
         && is_left(&tri.b, &tri.c, scale, u, v)

@@ -12,7 +12,7 @@ use Rattle.mesh_query.specs.declared.crossing.Crossing.{Crossing}
 use Rattle.mesh_query.specs.declared.rank.Ranked.{Ranked}
 use Rattle.mesh_query.specs.Found.{IsCrossing}
 use Rattle.mesh_query.specs.Rank.{IsOnWay, IsRanked}
-use Rattle.mesh_query.specs.Added.{Side, side, sides_of, all_sides, AreCrossings}
+use Rattle.mesh_query.specs.Added.{DirectedSide, side, sides_of, all_sides, AreCrossings}
 use Rattle.mesh_query.specs.Crossing.{CrossesOut}
 use Rattle.mesh_plane.proofs.ListWords.{all_from, all_to, any_here, any_there, any_none, any_cases}
 use Rattle.mesh_query.proofs.Crossings.{at_p, at_q}
@@ -54,14 +54,14 @@ module _ {X : Type 0} where
   all_weaker P Q f (x ∷ xs) a = (f x a.0, all_weaker P Q f xs a.1)
 
 module _ (p q : Point) where
-  abbrev From : List Side → Ranked → Type 0
+  abbrev From : List DirectedSide → Ranked → Type 0
   From sides r = Any (λ s. IsCrossing p q s.a s.b r.crossing) sides
 
-  abbrev Has : List Ranked → Side → Type 0
+  abbrev Has : List Ranked → DirectedSide → Type 0
   Has found s = CrossesOut p q s.a s.b → Any (λ r. IsCrossing p q s.a s.b r.crossing) found
 
   -- a side that is not crossed
-  pub not_crossed : (sides : List Side) (found : List Ranked) (a b : Corner) → ¬ CrossesOut p q a b
+  pub not_crossed : (sides : List DirectedSide) (found : List Ranked) (a b : Corner) → ¬ CrossesOut p q a b
       → AreCrossings p q sides found → AreCrossings p q (sides ++ side a b ∷ []) found
   not_crossed sides found a b none h = record {
     ranked = h.ranked;
@@ -74,7 +74,7 @@ module _ (p q : Point) where
   }
 
   -- a side that is
-  pub crossed : (sides : List Side) (found : List Ranked) (a b : Corner) (r : Ranked) (c : Crossing)
+  pub crossed : (sides : List DirectedSide) (found : List Ranked) (a b : Corner) (r : Ranked) (c : Crossing)
       → IsCrossing p q a b c → IsRanked r → r.crossing ≡ c
       → AreCrossings p q sides found → AreCrossings p q (sides ++ side a b ∷ []) (found ++ r ∷ [])
   crossed sides found a b r c is ranked e h =

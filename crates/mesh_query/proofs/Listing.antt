@@ -24,7 +24,7 @@ use Rattle.mesh_query.specs.Found.{IsCrossing, at_place}
 use Rattle.mesh_query.specs.Holder.{IsHolder}
 use Rattle.mesh_query.specs.Rank.{IsRanked, IsOnWay}
 use Rattle.mesh_query.specs.Ends.{IsStart}
-use Rattle.mesh_query.specs.Added.{Side, side, sides_of, all_sides, AreCrossings}
+use Rattle.mesh_query.specs.Added.{DirectedSide, side, sides_of, all_sides, AreCrossings}
 use Rattle.mesh_query.specs.Listed.{IsFoundAt, At, AreListed}
 use Rattle.mesh_query.proofs.Crossings.{each_side}
 use Rattle.mesh_query.proofs.SideHeights.{side_height_law}
@@ -93,49 +93,49 @@ any_map : {X : Type 0} (P Q : X → Type 0) (xs : List X) → ((x : X) → P x �
 any_map P Q xs f a = (a.0, a.1, a.2, a.3, f a.1 a.4)
 
 -- the triangle has the side, taken one way or the other
-abbrev Has : Side → Tri → Type 0
+abbrev Has : DirectedSide → Tri → Type 0
 Has s t = HasSide s.a s.b t ⊎ HasSide s.b s.a t
 
-one_of : (P : Side → Type 0) (t : Tri) → Any P (sides_of t) → (s : Side) × P s × Has s t
+one_of : (P : DirectedSide → Type 0) (t : Tri) → Any P (sides_of t) → (s : DirectedSide) × P s × Has s t
 one_of P t a = first (any_cases P (side t.a t.b)
     (side t.b t.a ∷ side t.b t.c ∷ side t.c t.b ∷ side t.c t.a ∷ side t.a t.c ∷ []) a)
   where
-    sixth : P (side t.a t.c) ⊎ Any P [] → (s : Side) × P s × Has s t
+    sixth : P (side t.a t.c) ⊎ Any P [] → (s : DirectedSide) × P s × Has s t
     sixth (inl h) = (side t.a t.c, h, inr (inr (inr (refl, refl))))
     sixth (inr h) = absurd (any_none P h)
 
-    fifth : P (side t.c t.a) ⊎ Any P (side t.a t.c ∷ []) → (s : Side) × P s × Has s t
+    fifth : P (side t.c t.a) ⊎ Any P (side t.a t.c ∷ []) → (s : DirectedSide) × P s × Has s t
     fifth (inl h) = (side t.c t.a, h, inl (inr (inr (refl, refl))))
     fifth (inr h) = sixth (any_cases P (side t.a t.c) [] h)
 
-    fourth : P (side t.c t.b) ⊎ Any P (side t.c t.a ∷ side t.a t.c ∷ []) → (s : Side) × P s × Has s t
+    fourth : P (side t.c t.b) ⊎ Any P (side t.c t.a ∷ side t.a t.c ∷ []) → (s : DirectedSide) × P s × Has s t
     fourth (inl h) = (side t.c t.b, h, inr (inr (inl (refl, refl))))
     fourth (inr h) = fifth (any_cases P (side t.c t.a) (side t.a t.c ∷ []) h)
 
-    third : P (side t.b t.c) ⊎ Any P (side t.c t.b ∷ side t.c t.a ∷ side t.a t.c ∷ []) → (s : Side) × P s × Has s t
+    third : P (side t.b t.c) ⊎ Any P (side t.c t.b ∷ side t.c t.a ∷ side t.a t.c ∷ []) → (s : DirectedSide) × P s × Has s t
     third (inl h) = (side t.b t.c, h, inl (inr (inl (refl, refl))))
     third (inr h) = fourth (any_cases P (side t.c t.b) (side t.c t.a ∷ side t.a t.c ∷ []) h)
 
     second : P (side t.b t.a) ⊎ Any P (side t.b t.c ∷ side t.c t.b ∷ side t.c t.a ∷ side t.a t.c ∷ [])
-        → (s : Side) × P s × Has s t
+        → (s : DirectedSide) × P s × Has s t
     second (inl h) = (side t.b t.a, h, inr (inl (refl, refl)))
     second (inr h) = third (any_cases P (side t.b t.c) (side t.c t.b ∷ side t.c t.a ∷ side t.a t.c ∷ []) h)
 
     first : P (side t.a t.b) ⊎ Any P (side t.b t.a ∷ side t.b t.c ∷ side t.c t.b ∷ side t.c t.a ∷ side t.a t.c ∷ [])
-        → (s : Side) × P s × Has s t
+        → (s : DirectedSide) × P s × Has s t
     first (inl h) = (side t.a t.b, h, inl (inl (refl, refl)))
     first (inr h) = second (any_cases P (side t.b t.a) (side t.b t.c ∷ side t.c t.b ∷ side t.c t.a ∷ side t.a t.c ∷ []) h)
 
-some_side : (P : Side → Type 0) (ts : List Tri) → Any P (all_sides ts) → (s : Side) × P s × Any (Has s) ts
+some_side : (P : DirectedSide → Type 0) (ts : List Tri) → Any P (all_sides ts) → (s : DirectedSide) × P s × Any (Has s) ts
 some_side P [] a = absurd (any_none P a)
 some_side P (t ∷ ts) a = go (any_split P (sides_of t) (all_sides ts) a) (some_side P ts)
   where
-    go : Any P (sides_of t) ⊎ Any P (all_sides ts) → (Any P (all_sides ts) → (s : Side) × P s × Any (Has s) ts)
-        → (s : Side) × P s × Any (Has s) (t ∷ ts)
+    go : Any P (sides_of t) ⊎ Any P (all_sides ts) → (Any P (all_sides ts) → (s : DirectedSide) × P s × Any (Has s) ts)
+        → (s : DirectedSide) × P s × Any (Has s) (t ∷ ts)
     go (inl h) f = let r = one_of P t h in (r.0, r.1, any_here (Has r.0) t ts r.2)
     go (inr h) f = let r = f h in (r.0, r.1, any_there (Has r.0) t ts r.2)
 
-all_of : (P : Side → Type 0) (ts : List Tri) → AllByRecursion P (all_sides ts)
+all_of : (P : DirectedSide → Type 0) (ts : List Tri) → AllByRecursion P (all_sides ts)
     → AllByRecursion (λ t. AllByRecursion P (sides_of t)) ts
 all_of P [] a = tt
 all_of P (t ∷ ts) a = let r = all_split P (sides_of t) (all_sides ts) a in (r.0, all_of P ts r.1)
@@ -145,7 +145,7 @@ same_by : (k m : Ratio) → k ≡ m → IsSame k m
 same_by k m e = subst (λ (r : Ratio). IsSame k r) e refl
 
 module _ (ts : List Tri) (p q : Point) where
-  crosses_at : (k : Ratio) (s : Side) → CrossesOut p q s.a s.b → IsSame k (crossing p q s.a s.b) → (t : Tri) → Has s t
+  crosses_at : (k : Ratio) (s : DirectedSide) → CrossesOut p q s.a s.b → IsSame k (crossing p q s.a s.b) → (t : Tri) → Has s t
       → AnySide (CrossesAt p q k) t
   crosses_at k s c e t (inl h) =
       each_side (λ a b. (a ≡ s.a) × (b ≡ s.b)) (CrossesAt p q k)
@@ -173,7 +173,7 @@ module _ (ts : List Tri) (p q : Point) where
       }
 
   module _ (found : List Ranked) (k : Ratio) where
-    abbrev Met : Side → Type 0
+    abbrev Met : DirectedSide → Type 0
     Met s = CrossesOut p q s.a s.b → Any (λ r. IsCrossing p q s.a s.b r.crossing) found
 
     at_side : (a b : Corner) → Met (side a b) → CrossesOut p q a b → IsSame k (crossing p q a b) → Any (At k) found

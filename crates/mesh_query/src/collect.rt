@@ -1,7 +1,7 @@
 //! The crossings of a segment with the sides of triangles.
 ghost use Rattle.std.specs.Prelude.{◌≡◌, pos, ◌++◌, ◌∷◌, [], List, All, OnOk, IfOk};
 ghost use Rattle.mesh_plane.specs.Plane.{IsOnTile, IsTilePoint, IsTileTri};
-ghost use Rattle.mesh_query.specs.Added.{Side, side, sides_of, all_sides, AreCrossings};
+ghost use Rattle.mesh_query.specs.Added.{DirectedSide, side, sides_of, all_sides, AreCrossings};
 ghost use Rattle.mesh_query.specs.Found.{at_place};
 ghost use Rattle.mesh_query.specs.Metres.{IsLow, IsLowTri};
 
@@ -24,7 +24,7 @@ fn add_crossing(
     requires b { IsOnTile b.now }
     requires a_low { IsLow a.now }
     requires b_low { IsLow b.now }
-    ensures { OnOk result ((sides : List Side)
+    ensures { OnOk result ((sides : List DirectedSide)
         → AreCrossings (at_place from.now) (at_place to.now) sides found.old.items
         → AreCrossings (at_place from.now) (at_place to.now) (sides ++ side a.now b.now ∷ []) found.new.items) }
 {
@@ -43,7 +43,7 @@ fn add_sides(found: &mut Vec<Ranked>, from: &Place, to: &Place, tri: &Tri) -> Re
     requires to { IsTilePoint (pos 1) to.now.u to.now.v }
     requires tri { IsTileTri tri.now }
     requires low { IsLowTri tri.now }
-    ensures { OnOk result ((sides : List Side)
+    ensures { OnOk result ((sides : List DirectedSide)
         → AreCrossings (at_place from.now) (at_place to.now) sides found.old.items
         → AreCrossings (at_place from.now) (at_place to.now) (sides ++ sides_of tri.now) found.new.items) }
 {

@@ -11,7 +11,7 @@ use Rattle.mesh_plane.specs.Cover.{Covers}
 use Rattle.tile_mesh.specs.declared.point.MeshPoint.{MeshPoint}
 use Rattle.tile_mesh.specs.Mesh.{Mesh, IsMeshAt, mesh_of_grid}
 use Rattle.tile_mesh.specs.Numbering.{ArePoints}
-use Rattle.tile_mesh.specs.Plane.{vertex, corner_of, triangle_of, triangles_in}
+use Rattle.tile_mesh.specs.Plane.{vertex, point_corner, triangle_of, triangles_in}
 use Rattle.tile_mesh.proofs.Made.{mesh_covers}
 use Rattle.tile_mesh.proofs.MeshNumbers.{numbered_law}
 use Rattle.tile_mesh.proofs.VertexHeights.{heights_in_range}

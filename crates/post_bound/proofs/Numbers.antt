@@ -23,7 +23,7 @@ use Rattle.terrain_base.proofs.Quotients.{ceil_is}
 use Rattle.tms_tree.specs.Touch.{touches_of}
 use Rattle.cell_mosaic.specs.Cells.{Cells, post_at, post_or_void}
 use Rattle.mesh_plane.specs.declared.corner.Tri.{Tri}
-use Rattle.mesh_plane.specs.Plane.{side_of, Holds, IsTilePoint, doubled_area, point}
+use Rattle.mesh_plane.specs.Plane.{side_of, TriangleHolds, IsTilePoint, doubled_area, point}
 use Rattle.mesh_plane.specs.Surface.{Surface, lift_of, gap_over, gap_under, size_of}
 use Rattle.mesh_plane.specs.SurfaceLaw.{IsTriIn}
 use Rattle.mesh_plane.specs.Fan.{Rect, InRect, grown}
@@ -82,10 +82,10 @@ parts true true c e = (refl, refl, e)
 parts true false c e = absurd (cc)
 parts false b c e = absurd (cc)
 
-pub held_yes : (u v : ℤ) (t : Tri) → Holds (pos 648000) u v t → is_held u v t ≡ true
+pub held_yes : (u v : ℤ) (t : Tri) → TriangleHolds (pos 648000) u v t → is_held u v t ≡ true
 held_yes u v t h = both _ _ _ (le_yes _ _ h.ab) (le_yes _ _ h.bc) (le_yes _ _ h.ca)
 
-pub held_holds : (u v : ℤ) (t : Tri) → is_held u v t ≡ true → Holds (pos 648000) u v t
+pub held_holds : (u v : ℤ) (t : Tri) → is_held u v t ≡ true → TriangleHolds (pos 648000) u v t
 held_holds u v t e =
     let p = parts _ _ _ e in
     record { ab = le_holds _ _ p.0; bc = le_holds _ _ p.1; ca = le_holds _ _ p.2 }
@@ -102,7 +102,7 @@ at_each false n m h = omega arith
 abbrev whole_tile : Rect
 whole_tile = record { west = pos 0; south = pos 0; east = pos 32767; north = pos 32767 }
 
-pub held_inside : (t : Tri) (u v : ℤ) → IsTerrainTri t → Holds (pos 648000) u v t → IsTilePoint (pos 648000) u v
+pub held_inside : (t : Tri) (u v : ℤ) → IsTerrainTri t → TriangleHolds (pos 648000) u v t → IsTilePoint (pos 648000) u v
 held_inside t u v is h =
     let on = is.on_tile in
     let within : IsTriIn whole_tile t = record {

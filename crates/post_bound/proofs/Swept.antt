@@ -10,7 +10,7 @@ use Rattle.terrain_base.specs.declared.tile.TileId.{TileId}
 use Rattle.terrain_base.specs.declared.cell_key.CellKey.{CellKey}
 use Rattle.cell_mosaic.specs.Cells.{Cells}
 use Rattle.mesh_plane.specs.declared.corner.Tri.{Tri}
-use Rattle.mesh_plane.specs.Plane.{Holds, IsCounterClockwise, doubled_area}
+use Rattle.mesh_plane.specs.Plane.{TriangleHolds, IsCounterClockwise, doubled_area}
 use Rattle.mesh_plane.specs.Surface.{Surface, HasHeight, lift_of, gap_over, gap_under}
 use Rattle.mesh_plane.specs.SurfaceLaw.{AreHeightsWithin, IsSurfaceNear}
 use Rattle.mesh_plane.proofs.SurfaceLaws.{surface_law, IsNear, near_moved, near_of_size, size_of_near}

@@ -8,7 +8,7 @@ use Rattle.terrain_base.specs.declared.post.Post.TheVariants.{Metres}
 use Rattle.terrain_base.specs.Level.{lat_step_of, lon_step_of, rows_of, columns_of}
 use Rattle.cell_mosaic.specs.Cells.{Cells, post_at}
 use Rattle.mesh_plane.specs.declared.corner.Tri.{Tri}
-use Rattle.mesh_plane.specs.Plane.{Holds, IsTilePoint}
+use Rattle.mesh_plane.specs.Plane.{TriangleHolds, IsTilePoint}
 use Rattle.mesh_plane.specs.Surface.{gap_over}
 use Rattle.lattice_sweep.specs.declared.axis.Axis.{Axis}
 use Rattle.lattice_sweep.specs.Axis.{point_of, Has, IsCut}

@@ -5,7 +5,7 @@ use Rattle.terrain_base.specs.declared.tile.TileId.{TileId}
 use Rattle.terrain_base.specs.Level.{lat_step_of, lon_step_of, rows_of, columns_of}
 use Rattle.cell_mosaic.specs.Cells.{Cells}
 use Rattle.mesh_plane.specs.declared.corner.Tri.{Tri}
-use Rattle.mesh_plane.specs.Plane.{Holds}
+use Rattle.mesh_plane.specs.Plane.{TriangleHolds}
 use Rattle.mesh_plane.specs.Surface.{gap_over, gap_under}
 use Rattle.lattice_sweep.specs.declared.axis.Axis.{Axis}
 use Rattle.lattice_sweep.specs.Axis.{point_of, IsCut}
@@ -22,7 +22,7 @@ pub record WindowGap (cells : Cells) (tile : TileId) (ts : List Tri) (key : Cell
   pub metres : ℤ
   pub among : Contains ts tri
   pub post : IsPostOf cells tile key turns (pos 64 *ℤ u) (pos 64 *ℤ v) metres
-  pub held : Holds (pos 10125) u v tri
+  pub held : TriangleHolds (pos 10125) u v tri
   pub area : under ≡ gap_under tri (pos 10125)
   pub size : pos gap ≡ gap_over tri (pos 10125) u v metres
 

@@ -2,7 +2,7 @@
 ghost use Rattle.std.specs.Prelude.{◌≡◌, ◌≤◌, All, length};
 ghost use Rattle.tile_mesh.specs.MeshNumbers.{IsVertexOnGrid};
 ghost use Rattle.tile_mesh.specs.Numbering.{ArePoints};
-ghost use Rattle.tile_mesh.specs.Plane.{corner_of, triangle_of};
+ghost use Rattle.tile_mesh.specs.Plane.{point_corner, triangle_of};
 
 use mesh_plane::{Corner, Tri};
 use terrain_base::{Indexes, grid_line};
@@ -11,7 +11,7 @@ use tile_mesh::MeshPoint;
 // A vertex in the plane.
 fn corner(point: MeshPoint) -> Corner
     requires { IsVertexOnGrid point }
-    ensures { result ≡ corner_of point }
+    ensures { result ≡ point_corner point }
 {
     Corner {
         u: i64::from(grid_line(point.i)),

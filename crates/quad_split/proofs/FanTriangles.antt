@@ -12,7 +12,7 @@ use Rattle.mesh_plane.specs.Cover.{Tiles}
 use Rattle.mesh_plane.specs.Quadtree.{line_of, Midpoints, leaf_ring, leaf}
 use Rattle.mesh_plane.proofs.FanProof.{fan_law}
 use Rattle.mesh_plane.proofs.Quads.{node, leaf_is_ring, leaf_inside, first_half, second_half}
-use Rattle.quad_split.specs.Fan.{corner_of}
+use Rattle.quad_split.specs.Fan.{grid_corner}
 use Rattle.quad_split.specs.Window.{IsOnGrid, IsSideOf, AreSidesOf, fan_at, grid_point}
 
 -- where a corner lies
@@ -21,7 +21,7 @@ at k = point k.u k.v
 
 -- the place of a grid line
 abbrev pub place : ℕ → ℤ
-place i = pos (grid.line_of i)
+place i = pos (grid.line_position i)
 
 pub up : (i j : ℕ) → i < j → place i <ℤ place j
 up i j h = omega (arith, ints)
@@ -37,22 +37,22 @@ abbrev pub all_midpoints : Midpoints
 all_midpoints = record { south = true; east = true; north = true; west = true }
 
 module _ (heights : List ℤ) (k x y : ℕ) where
-  on : (i j : ℕ) → at (corner_of heights i j) ≡ point (place i) (place j)
+  on : (i j : ℕ) → at (grid_corner heights i j) ≡ point (place i) (place j)
   on i j = refl
 
   abbrev box : Rect
-  box = node at (corner_of heights) place up on (suc k) x y
+  box = node at (grid_corner heights) place up on (suc k) x y
 
   abbrev triangles : Midpoints → List Tri
-  triangles m = map tri_of (leaf (corner_of heights) k x y m)
+  triangles m = map tri_of (leaf (grid_corner heights) k x y m)
 
   -- the fan tiles the node's rectangle
   fan_tiles_node : (m : Midpoints) → Tiles (λ s u v. InRect (grown s box) (point u v)) (triangles m)
   fan_tiles_node m =
-      fan_law box (corner_of heights (line_of k (2 * x + 1)) (line_of k (2 * y + 1)))
-      (leaf_ring (corner_of heights) k x y m)
-      (leaf_inside at (corner_of heights) place up on k x y)
-      (leaf_is_ring at (corner_of heights) place up on k x y m)
+      fan_law box (grid_corner heights (line_of k (2 * x + 1)) (line_of k (2 * y + 1)))
+      (leaf_ring (grid_corner heights) k x y m)
+      (leaf_inside at (grid_corner heights) place up on k x y)
+      (leaf_is_ring at (grid_corner heights) place up on k x y m)
 
   one : (m : Midpoints) (t : Tri) (n : ℕ) → n < length (triangles m) → get_or (triangles m) n t ≡ t → IsCounterClockwise t
   one m t n l e = subst (λ (t : Tri). IsCounterClockwise t) e ((fan_tiles_node m).counter_clockwise n t l)

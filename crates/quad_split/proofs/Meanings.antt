@@ -4,13 +4,13 @@ use Rattle.std.specs.Prelude.{ℤ, pos, ◌*ℤ◌, ◌≤ℤ◌, int_le, ◌↔
 use Rattle.std.specs.List.{list_all}
 use Rattle.std.proofs.lemmas.List.Sums.{AllPass-from_list_all, list_all-from_AllPass}
 use Rattle.std.proofs.lemmas.Int.{ints}
-use Rattle.terrain_base.specs.Grid.{line_of, height_in}
+use Rattle.terrain_base.specs.Grid.{line_position, height_in}
 use Rattle.mesh_plane.specs.declared.corner.Tri.{Tri}
 use Rattle.mesh_plane.specs.Plane.{side_of}
 use Rattle.mesh_plane.specs.Surface.{gap_over, gap_under}
 use Rattle.mesh_plane.specs.declared.corner.Corner.{Corner}
 use Rattle.mesh_plane.specs.Triangles.{Triple, tri_of}
-use Rattle.quad_split.specs.Fan.{corner_of, fan_triangles}
+use Rattle.quad_split.specs.Fan.{grid_corner, fan_triangles}
 use Rattle.quad_split.specs.Fits.{HoldsPoint, IsNearPlane, Follows, holds_point, is_near_plane, follows_at, follows_row, follows_rows, follows, Fits, fits_at}
 
 le_test : (a b : ℤ) → IsTrue (int_le a b) ↔ (a ≤ℤ b)
@@ -23,9 +23,9 @@ and_test false b p q = (λ h. absurd (let z = h in cc), λ h. absurd (let z = p.
 pub holds_test : (t : Tri) (i j : ℕ) → IsTrue (holds_point t i j) ↔ HoldsPoint t i j
 unfolding holds_point
 holds_test t i j =
-    let ab = side_of t.a t.b (pos 1) (pos (line_of i)) (pos (line_of j)) in
-    let bc = side_of t.b t.c (pos 1) (pos (line_of i)) (pos (line_of j)) in
-    let ca = side_of t.c t.a (pos 1) (pos (line_of i)) (pos (line_of j)) in
+    let ab = side_of t.a t.b (pos 1) (pos (line_position i)) (pos (line_position j)) in
+    let bc = side_of t.b t.c (pos 1) (pos (line_position i)) (pos (line_position j)) in
+    let ca = side_of t.c t.a (pos 1) (pos (line_position i)) (pos (line_position j)) in
     let all = and_test (int_le (pos 0) ab) (int_le (pos 0) bc && int_le (pos 0) ca) (le_test (pos 0) ab)
     (and_test (int_le (pos 0) bc) (int_le (pos 0) ca) (le_test (pos 0) bc) (le_test (pos 0) ca)) in (
       λ h. let r = all.0 h in record { ab = r.0; bc = r.1.0; ca = r.1.1 },
@@ -36,7 +36,7 @@ pub near_test : (grid : List ℤ) (tol : ℕ) (t : Tri) (i j : ℕ)
     → IsTrue (is_near_plane grid tol t i j) ↔ IsNearPlane grid tol t i j
 unfolding is_near_plane
 near_test grid tol t i j =
-    le_test (gap_over t (pos 1) (pos (line_of i)) (pos (line_of j)) (height_in grid i j))
+    le_test (gap_over t (pos 1) (pos (line_position i)) (pos (line_position j)) (height_in grid i j))
     (pos tol *ℤ gap_under t (pos 1))
 
 -- the same truth, as a test's value
@@ -127,7 +127,7 @@ all_test grid tol t =
 -- a node fits by its test where its twelve triangles follow the heights
 pub fit_test : (grid : List ℤ) (tol k x y : ℕ) → IsTrue (fits_at grid tol (suc k) x y) ↔ Fits grid tol k x y
 unfolding fits_at
-fit_test grid tol k x y = each (fan_triangles (corner_of grid) k x y)
+fit_test grid tol k x y = each (fan_triangles (grid_corner grid) k x y)
   where
     each : (ts : List (Triple Corner)) → IsTrue (list_all (λ t. follows grid tol (tri_of t)) ts)
         ↔ All (λ t. Follows grid tol (tri_of t)) ts

@@ -7,10 +7,10 @@ use Rattle.mesh_plane.specs.Quadtree.{line_of}
 
 -- a grid point on the tile, of which an edge has 32767 units (quantized-mesh-1.0, u and v), at its height in
 -- metres
-abbrev pub corner_of : List ℤ → ℕ → ℕ → Corner
-corner_of heights i j = record {
-  u = pos (grid.line_of i);
-  v = pos (grid.line_of j);
+abbrev pub grid_corner : List ℤ → ℕ → ℕ → Corner
+grid_corner heights i j = record {
+  u = pos (grid.line_position i);
+  v = pos (grid.line_position j);
   h = grid.height_in heights i j;
 }
 

@@ -2,7 +2,7 @@
 use Rattle.std.specs.Prelude.{◌≡◌, ◌↔◌, ◌⊎◌, ℕ, suc, ◌+◌, ◌*◌, ◌<◌, ◌≤◌, ℤ, IsTrue, true, false, Bool, List, All}
 use Rattle.mesh_plane.specs.Quadtree.{line_of, leaf, Midpoints}
 use Rattle.mesh_plane.specs.Triangles.{tri_of}
-use Rattle.quad_split.specs.Fan.{corner_of}
+use Rattle.quad_split.specs.Fan.{grid_corner}
 use Rattle.quad_split.specs.Node.{is_node}
 use Rattle.quad_split.specs.Fits.{Follows, Fits, fits_at}
 use Rattle.quad_split.specs.Split.{is_split}
@@ -69,7 +69,7 @@ pub record LeafLaw : Type 0 where
       → Fits grid tol k x y
   pub triangles : (grid : List ℤ) (tol k x y : ℕ) (midpoints : Midpoints) → is_node (suc k) x y ≡ true
       → is_split grid tol (suc k) x y ≡ false
-      → All (λ t. Follows grid tol (tri_of t)) (leaf (corner_of grid) k x y midpoints)
+      → All (λ t. Follows grid tol (tri_of t)) (leaf (grid_corner grid) k x y midpoints)
 
 -- the lines round the node (x, y) of level k are broken in the middle
 pub record AreBroken (split : ℕ → ℕ → ℕ → Bool) (k x y : ℕ) : Type 0 where

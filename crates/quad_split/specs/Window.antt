@@ -7,7 +7,7 @@ use Rattle.mesh_plane.specs.declared.corner.Tri.{Tri}
 use Rattle.mesh_plane.specs.Plane.{IsTileTri, IsCounterClockwise}
 use Rattle.mesh_plane.specs.Triangles.{tri_of}
 use Rattle.mesh_plane.specs.Quadtree.{line_of}
-use Rattle.quad_split.specs.Fan.{corner_of, side_triangles}
+use Rattle.quad_split.specs.Fan.{grid_corner, side_triangles}
 use Rattle.quad_split.specs.Fits.{HoldsPoint, follows, follows_at}
 use Rattle.quad_split.specs.declared.triangle.GridPoint.{GridPoint}
 use Rattle.quad_split.specs.declared.triangle.Window.{Window}
@@ -36,7 +36,7 @@ pub record IsInWindow (window : Window) (p : GridPoint) : Type 0 where
 -- ---- triangles
 -- the grid point at its height
 abbrev pub corner_at : List ℤ → GridPoint → Corner
-corner_at heights p = corner_of heights p.i p.j
+corner_at heights p = grid_corner heights p.i p.j
 
 abbrev pub tri_at : List ℤ → GridPoint → GridPoint → GridPoint → Tri
 tri_at heights a b c = record { a = corner_at heights a; b = corner_at heights b; c = corner_at heights c }

@@ -1,7 +1,7 @@
 //! Whether a triangle over grid points follows the heights of the grid.
 
 ghost use Rattle.std.specs.Prelude.{◌≡◌, pos, ◌+◌, ◌+ℤ◌, ◌-ℤ◌, ◌*ℤ◌, ◌^◌, ◌≤◌, int_le, unsigned_abs};
-ghost use Rattle.terrain_base.specs.Grid.{height_in, line_of};
+ghost use Rattle.terrain_base.specs.Grid.{height_in, line_position};
 ghost use Rattle.terrain_base.specs.Height.{IsHeight};
 ghost use Rattle.mesh_plane.specs.Plane.{IsOnTile, IsTileTri, IsCounterClockwise, side_of};
 ghost use Rattle.mesh_plane.specs.Surface.{gap_under, size_of};
@@ -61,8 +61,8 @@ fn window_of(a: GridPoint, b: GridPoint, c: GridPoint) -> Window
 /// A grid line's place in tile units.
 fn line(index: u8) -> i64
     requires { index ≤ 66 }
-    ensures value { result ≡ pos (line_of index) }
-    ensures within { line_of index ≤ 32767 }
+    ensures value { result ≡ pos (line_position index) }
+    ensures within { line_position index ≤ 32767 }
 {
     grid_line(index) as i64
 }
@@ -73,7 +73,7 @@ fn turn(a: &Corner, b: &Corner, i: u8, j: u8) -> i64
     requires b { IsOnTile b.now }
     requires i { i ≤ 66 }
     requires j { j ≤ 66 }
-    ensures value { result ≡ side_of a.now b.now (pos 1) (pos (line_of i)) (pos (line_of j)) }
+    ensures value { result ≡ side_of a.now b.now (pos 1) (pos (line_position i)) (pos (line_position j)) }
     ensures size { unsigned_abs result ≤ 2 ^ 31 }
 {
     side(a, b, 1, line(i), line(j)) as i64

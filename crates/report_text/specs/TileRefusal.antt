@@ -1,7 +1,7 @@
 -- The texts of refused tiles, from their numbers on.
 use Rattle.std.specs.Prelude.{ℕ, List, [], ◌∷◌, codes, decimal}
-use Rattle.mesh_codec.specs.declared.edge.Edge.{Edge}
-use Rattle.mesh_codec.specs.declared.edge.Edge.TheVariants.{West, South, East, North}
+use Rattle.terrain_base.specs.declared.side.Side.{Side}
+use Rattle.terrain_base.specs.declared.side.Side.TheVariants.{West, South, East, North}
 use Rattle.mesh_codec.specs.declared.refusal.Array.{Array}
 use Rattle.mesh_codec.specs.declared.refusal.Array.TheVariants.{U, V, Height}
 use Rattle.mesh_codec.specs.declared.refusal.TileRefusal.{TileRefusal}
@@ -13,7 +13,7 @@ array_name U = codes "u"
 array_name V = codes "v"
 array_name Height = codes "height"
 
-abbrev pub edge_name : Edge → List ℕ
+abbrev pub edge_name : Side → List ℕ
 edge_name West = codes "west"
 edge_name South = codes "south"
 edge_name East = codes "east"

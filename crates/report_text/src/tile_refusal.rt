@@ -2,9 +2,9 @@
 ghost use Rattle.std.specs.Prelude.{◌≡◌, IfOk, string_bytes};
 ghost use Rattle.report_text.specs.TileRefusal.{array_name, edge_name, tile_refusal_text_of};
 
-use mesh_codec::{Array, Edge, TileRefusal};
+use mesh_codec::{Array, TileRefusal};
 use std::alloc::Global;
-use terrain_base::NoMemory;
+use terrain_base::{NoMemory, Side};
 
 // The name of an array.
 fn array_word(array: Array) -> &'static str
@@ -18,14 +18,14 @@ fn array_word(array: Array) -> &'static str
 }
 
 // The name of an edge.
-fn edge_word(edge: Edge) -> &'static str
+fn edge_word(edge: Side) -> &'static str
     ensures { result.now ≡ edge_name edge }
 {
     match edge {
-        Edge::West => "west",
-        Edge::South => "south",
-        Edge::East => "east",
-        Edge::North => "north",
+        Side::West => "west",
+        Side::South => "south",
+        Side::East => "east",
+        Side::North => "north",
     }
 }
 

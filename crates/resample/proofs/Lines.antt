@@ -11,7 +11,7 @@ use Rattle.terrain_base.specs.Level.{rows_of, columns_of}
 use Rattle.terrain_base.proofs.SquareTexts.{same_square}
 use Rattle.tms_tree.specs.declared.place.Place.{Place}
 use Rattle.std.specs.Prelude.{Contains}
-use Rattle.tms_tree.specs.Degrees.{Holds, square_rectangle}
+use Rattle.tms_tree.specs.Degrees.{RectangleHolds, square_rectangle}
 use Rattle.tms_tree.specs.Place.{IsPlace, point_of}
 use Rattle.cell_mosaic.proofs.Holders.{are_holders}
 use Rattle.dted_cell.specs.Header.{square_of}
@@ -98,7 +98,7 @@ one_on_lines place square east north e n =
     one_candidate place square (subst (λ (k : ℕ). 0 < k) e.0.rest e.1) (subst (λ (k : ℕ). 0 < k) n.0.rest n.1) (e.2 ∙ e.0.degrees) (n.2 ∙ n.0.degrees)
 
 -- which holds it
-pub one_holds : (place : Place) (square : Square) → IsPlace place → candidates_of place ≡ square ∷ [] → Holds (square_rectangle square) (point_of place)
+pub one_holds : (place : Place) (square : Square) → IsPlace place → candidates_of place ≡ square ∷ [] → RectangleHolds (square_rectangle square) (point_of place)
 one_holds place square fit one = (are_holders place square fit).0 (subst (λ l. Contains l square) (sym one) (0, omega arith, refl))
 
 single : (fill : ℤ) (post : Post) → height_or fill (Some post) ≡ first_height fill (post ∷ [])

@@ -8,7 +8,7 @@ use Rattle.terrain_base.specs.declared.cell_key.CellKey.{CellKey}
 use Rattle.terrain_base.specs.CellKey.{key_at}
 use Rattle.terrain_base.specs.declared.tile.TileId.{TileId}
 use Rattle.tms_tree.specs.declared.place.Place.{Place}
-use Rattle.tms_tree.specs.Degrees.{Holds, square_rectangle}
+use Rattle.tms_tree.specs.Degrees.{RectangleHolds, square_rectangle}
 use Rattle.tms_tree.specs.Place.{IsPlace, point_of, place_of}
 use Rattle.tms_tree.specs.Touch.{touches_of}
 use Rattle.tms_tree.proofs.Places.{place_fits, grid_point_in_tile}
@@ -28,7 +28,7 @@ same_values cells others place (square ∷ squares) same = λ i.
     same_at cells others square place (λ level. same (key_at square level) (0, omega arith, refl)) i
     ∷ same_values cells others place squares (λ k c. same k (suc c.0, (let b = c.1 in omega arith), c.2)) i
 
-pub height_local : (fill : ℤ) (cells others : Cells) (place : Place) → IsPlace place → ((key : CellKey) → Holds (square_rectangle key.square) (point_of place) → get cells key ≡ get others key)
+pub height_local : (fill : ℤ) (cells others : Cells) (place : Place) → IsPlace place → ((key : CellKey) → RectangleHolds (square_rectangle key.square) (point_of place) → get cells key ≡ get others key)
     → height_at fill cells place ≡ height_at fill others place
 height_local fill cells others place fit same =
     sym (height_by_list fill cells place (candidates_of place) refl)

@@ -10,7 +10,7 @@ use Rattle.terrain_base.specs.Level.{level_number as number_of}
 use Rattle.terrain_base.specs.declared.post.Post.{Post}
 use Rattle.terrain_base.specs.declared.post.Post.TheVariants.{Void, Metres}
 use Rattle.tms_tree.specs.declared.place.Place.{Place}
-use Rattle.tms_tree.specs.Degrees.{Holds, square_rectangle}
+use Rattle.tms_tree.specs.Degrees.{RectangleHolds, square_rectangle}
 use Rattle.tms_tree.specs.Place.{IsPlace, point_of}
 use Rattle.cell_mosaic.specs.Cells.{Cells, Shapes, AreCells, finest_of, coarser_of}
 use Rattle.cell_mosaic.specs.Candidates.{candidates_of}
@@ -66,5 +66,5 @@ none_finer shapes square One finest is less = middle_is_less (contains shapes (k
 none_finer shapes square Zero finest is less = absurd (omega (arith, less))
 
 -- a candidate holds the place
-pub candidate_holds : (place : Place) (squares : List Square) (k : ℕ) (square : Square) → IsPlace place → squares ≡ candidates_of place → k < length squares → square ≡ get_or squares k square → Holds (square_rectangle square) (point_of place)
+pub candidate_holds : (place : Place) (squares : List Square) (k : ℕ) (square : Square) → IsPlace place → squares ≡ candidates_of place → k < length squares → square ≡ get_or squares k square → RectangleHolds (square_rectangle square) (point_of place)
 candidate_holds place squares k square fit is below at = (are_holders place square fit).0 (subst (λ l. Contains l square) is (k, below, sym at))

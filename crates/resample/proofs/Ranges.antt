@@ -12,7 +12,8 @@ use Rattle.tms_tree.specs.declared.place.Place.{Place}
 use Rattle.tms_tree.specs.Place.{IsPlace, place_of}
 use Rattle.tms_tree.proofs.Places.{place_fits}
 use Rattle.cell_mosaic.specs.Candidates.{candidates_of}
-use Rattle.cell_mosaic.specs.Cells.{Cells, AreSound, IsPost}
+use Rattle.dted_cell.specs.Elevation.{IsPost}
+use Rattle.cell_mosaic.specs.Cells.{Cells, AreSound}
 use Rattle.cell_mosaic.specs.Value.{value_at}
 use Rattle.cell_mosaic.proofs.Holders.{are_holders}
 use Rattle.cell_mosaic.proofs.Ranges.{values_are_posts}

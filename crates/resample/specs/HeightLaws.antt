@@ -2,7 +2,7 @@
 use Rattle.std.specs.Prelude.{◌≡◌, ℕ, ◌≤◌, ℤ, true}
 use Rattle.std.specs.FinMap.{get}
 use Rattle.terrain_base.specs.declared.cell_key.CellKey.{CellKey}
-use Rattle.tms_tree.specs.Degrees.{Holds, square_rectangle}
+use Rattle.tms_tree.specs.Degrees.{RectangleHolds, square_rectangle}
 use Rattle.tms_tree.specs.Touch.{touches_of}
 use Rattle.terrain_base.specs.declared.tile.TileId.{TileId}
 use Rattle.terrain_base.specs.Grid.{IsGrid, height_in}
@@ -25,7 +25,7 @@ TurnChangesNothing = (fill : ℤ) (cells : Cells) (a b : Place) → IsPlace a �
 -- the height depends on the cells alone that hold the place
 abbrev pub HeightIsLocal : Type 0
 HeightIsLocal = (fill : ℤ) (cells others : Cells) (place : Place) → IsPlace place
-    → ((key : CellKey) → Holds (square_rectangle key.square) (point_of place) → get cells key ≡ get others key)
+    → ((key : CellKey) → RectangleHolds (square_rectangle key.square) (point_of place) → get cells key ≡ get others key)
     → height_at fill cells place ≡ height_at fill others place
 
 -- the grid depends on the cells alone that touch the tile

@@ -1,9 +1,10 @@
 // The height at a place.
 ghost use Rattle.std.specs.Prelude.{◌≡◌, Some, IfOk};
 ghost use Rattle.terrain_base.specs.Height.{IsHeight};
-ghost use Rattle.tms_tree.specs.Degrees.{Holds, square_rectangle};
+ghost use Rattle.tms_tree.specs.Degrees.{RectangleHolds, square_rectangle};
 ghost use Rattle.tms_tree.specs.Place.{IsPlace, point_of};
-ghost use Rattle.cell_mosaic.specs.Cells.{Cells, IsPost};
+ghost use Rattle.dted_cell.specs.Elevation.{IsPost};
+ghost use Rattle.cell_mosaic.specs.Cells.{Cells};
 ghost use Rattle.cell_mosaic.specs.Source.{GivesTold, Leaves};
 ghost use Rattle.cell_mosaic.specs.Value.{value_at};
 ghost use Rattle.resample.specs.Height.{height_at};
@@ -20,7 +21,7 @@ fn value_or_void<P: PostSource, S: Store>(
     place: Place,
 ) -> Result<Post, SourceFault>
     requires place { IsPlace place }
-    requires holds { Holds (square_rectangle square) (point_of place) }
+    requires holds { RectangleHolds (square_rectangle square) (point_of place) }
     ensures value { GivesTold (P.cells src.old (S.holds store.old))
         (λ told. value_at told square place) result }
     ensures height { IfOk result IsPost }

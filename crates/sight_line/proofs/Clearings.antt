@@ -6,7 +6,7 @@ use Rattle.polynomial.proofs.Expressions.{Expr, var, num, add, sub, mul}
 use Rattle.polynomial.proofs.NormalForm.{by_ring}
 use Rattle.polynomial.proofs.Signs.{times_pos, factor_pos, weaken}
 use Rattle.mesh_plane.specs.declared.corner.Tri.{Tri}
-use Rattle.mesh_plane.specs.Plane.{Point, doubled_area, IsCounterClockwise, Holds}
+use Rattle.mesh_plane.specs.Plane.{Point, doubled_area, IsCounterClockwise, TriangleHolds}
 use Rattle.mesh_plane.specs.Surface.{lift_of}
 use Rattle.mesh_query.specs.declared.ratio.Ratio.{Ratio}
 use Rattle.mesh_query.specs.Ratios.{ratio, IsFraction, IsBelow}
@@ -138,7 +138,7 @@ module _ (ts : List Tri) (p q : Point) (a b : ℤ) (i : ℕ) (t : Tri) (low : i 
       by_ring (add (mul (sub (num 1) (num 1)) (var 0)) (mul (num 1) (var 1))) (var 1) (g.first ∷ g.last ∷ []) refl
 
   -- below at a fraction, so below at one of the ends
-  pub found : (k h : Ratio) → IsFraction k → pos 0 <ℤ h.under → Holds k.under (way p q k).u (way p q k).v t
+  pub found : (k h : Ratio) → IsFraction k → pos 0 <ℤ h.under → TriangleHolds k.under (way p q k).u (way p q k).v t
       → lift_of t k.under (way p q k).u (way p q k).v *ℤ h.under ≡ h.over *ℤ (k.under *ℤ doubled_area t)
       → IsBelow (line_at a b k) h → (m : Ratio) × IsFraction m × Found ts p q m × IsUnder ts p a q b m
   found k h f hu held level below =

@@ -13,7 +13,7 @@ use Rattle.terrain_base.specs.declared.name.Key.{Key}
 use Rattle.terrain_base.specs.declared.name.Key.TheVariants.{Manifest, Layer, Stage, Cell, OldCell, Terrain, Note}
 use Rattle.terrain_base.specs.declared.square.Square.{Square}
 use Rattle.terrain_base.specs.Level.{level_number}
-use Rattle.terrain_base.specs.Name.{tile_text, text_of, by_text}
+use Rattle.terrain_base.specs.Name.{tile_text, name_text, by_text}
 use Rattle.terrain_base.specs.NameParts.{cell_stem, level_ending, stem_of, ending_of}
 use Rattle.terrain_base.proofs.SquareTexts.{square_cut}
 use Rattle.terrain_base.proofs.KeyOrder.{same_key}
@@ -120,14 +120,14 @@ no_ending ending zero one two Zero e = zero (e ∙ ending_is Zero)
 no_ending ending zero one two One e = one (e ∙ ending_is One)
 no_ending ending zero one two Two e = two (e ∙ ending_is Two)
 
-pub same_text : (a b : Key) → text_of a ≡ text_of b → a ≡ b
+pub same_text : (a b : Key) → name_text a ≡ name_text b → a ≡ b
 same_text a b e =
     let parts = cut 46 (stem_of a) (stem_of b) (ending_of a) (ending_of b) (lacks-stem a) (lacks-stem b) (sym (parts_of a) ∙ e ∙ parts_of b) in
     same_parts a b parts.0 parts.1
 
 pub by_text_total : IsTotalOrder by_text
-by_text_total = on_total text_of nat_list_cmp_total
+by_text_total = on_total name_text nat_list_cmp_total
 
 -- names that stand at one place in the order are the same
 pub by_text_exact : IsAntisymmetric by_text
-by_text_exact a b e = same_text a b (exact_bytes (text_of a) (text_of b) e)
+by_text_exact a b e = same_text a b (exact_bytes (name_text a) (name_text b) e)

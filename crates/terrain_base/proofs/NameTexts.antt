@@ -20,7 +20,7 @@ use Rattle.terrain_base.specs.declared.name.Key.{Key}
 use Rattle.terrain_base.specs.declared.name.Key.TheVariants.{Manifest, Layer, Stage, Cell, OldCell, Terrain, Note}
 use Rattle.terrain_base.specs.Level.{level_number}
 use Rattle.terrain_base.specs.SquareText.{digit_of, lat_text, lon_text, square_text}
-use Rattle.terrain_base.specs.Name.{tile_text, text_of}
+use Rattle.terrain_base.specs.Name.{tile_text, name_text}
 use Rattle.terrain_base.specs.NameParts.{cell_stem, level_ending, stem_of, ending_of}
 use Rattle.terrain_base.proofs.SquareTexts.{lat_case, lon_case}
 use Rattle.terrain_base.proofs.TileNumbers.{small_z, small_y, small_x}
@@ -99,7 +99,7 @@ IsAscii-plain [] p i = omega arith
 IsAscii-plain (x ∷ xs) p zero = p.0.1
 IsAscii-plain (x ∷ xs) p (suc i) = IsAscii-plain xs p.1 i
 
-pub parts_of : (key : Key) → text_of key ≡ stem_of key ++ 46 ∷ ending_of key
+pub parts_of : (key : Key) → name_text key ≡ stem_of key ++ 46 ∷ ending_of key
 parts_of Manifest = refl
 parts_of Layer = refl
 parts_of Stage = refl
@@ -138,7 +138,7 @@ IsAscii-ending (OldCell s) = IsAscii-plain (codes "dt") (search rules)
 IsAscii-ending (Terrain t) = IsAscii-plain (codes "terrain") (search rules)
 IsAscii-ending (Note t) = IsAscii-plain (codes "txt") (search rules)
 
-IsAscii-text : (key : Key) → IsAscii (text_of key)
+IsAscii-text : (key : Key) → IsAscii (name_text key)
 IsAscii-text key = rw (parts_of key) (IsAscii-append (stem_of key) (46 ∷ ending_of key) (IsAscii-plain _ (plain-stem key)) (IsAscii-append (46 ∷ []) (ending_of key) dot_ascii (IsAscii-ending key)))
 
 -- ---- a text is cut at a byte that its front lacks
@@ -175,13 +175,13 @@ split_found c xs ys bs (Some x) is small p e =
 
 pub utf8_found : {E : Type 0} (Q : E → Type 0) (key : Key) (bytes : List ℕ) (r : Result (Bor (List ℕ)) E)
     (o : Option (Bor (List ℕ))) → MatchResult r (λ text. (text.now ≡ bytes) × IsUtf8 bytes)
-    (λ e. (¬ (IsUtf8 bytes)) × Q e) → o ≡ result_ok r → bytes ≡ text_of key → IsSomeAnd o
-    (λ text. text.now ≡ text_of key)
+    (λ e. (¬ (IsUtf8 bytes)) × Q e) → o ≡ result_ok r → bytes ≡ name_text key → IsSomeAnd o
+    (λ text. text.now ≡ name_text key)
 utf8_found Q key bytes (Ok text) o is by e = rw by (is.0 ∙ e)
 utf8_found Q key bytes (Err f) o is by e = absurd (is.0 (subst IsUtf8 (sym e) (IsUtf8-from_ascii _ (IsAscii-text key))))
 
 pub stem_found : (key : Key) (text : List ℕ) (r : Option (Bor (List ℕ) × Bor (List ℕ))) → IsSplitOnceResult 46 text r
-    → text ≡ text_of key → IsSomeAnd r (λ x. (x.0.now ≡ stem_of key) × (x.1.now ≡ ending_of key))
+    → text ≡ name_text key → IsSomeAnd r (λ x. (x.0.now ≡ stem_of key) × (x.1.now ≡ ending_of key))
 stem_found key text r is e = split_found 46 (stem_of key) (ending_of key) text r is (omega arith) (lacks-stem key) (e ∙ parts_of key)
 
 -- `split_once` finds a tile's level, then its column

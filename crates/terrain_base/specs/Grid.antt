@@ -16,8 +16,8 @@ pub record IsGrid (grid : List ℤ) : Type 0 where
   pub heights : (k : ℕ) → k < 4489 → IsHeight (slice_index_or grid k (pos 0))
 
 -- where the grid line of this number lies, in tile units: the edge has 32767 (quantized-mesh-1.0, u and v)
-abbrev pub line_of : ℕ → ℕ
-line_of i = 32767 * i / 66
+abbrev pub line_position : ℕ → ℕ
+line_position i = 32767 * i / 66
 
 -- the tolerance of a level, in metres
 abbrev pub tolerance_of : ℕ → ℕ

@@ -22,15 +22,15 @@ key_text between key = square_text key.square ++ (between ++ decimal (level_numb
 abbrev pub row_text : CellKey → List ℕ
 row_text key = square_text key.square ++ (32 ∷ digit_of (level_number key.level) ∷ [])
 
-abbrev pub text_of : Key → List ℕ
-text_of Manifest = codes "manifest.txt"
-text_of Layer = codes "layer.json"
-text_of Stage = codes "stage.dt"
-text_of (Cell key) = codes "cells/" ++ (key_text (codes ".") key ++ codes ".dt")
-text_of (OldCell square) = codes "cells/" ++ (square_text square ++ codes ".dt")
-text_of (Terrain tile) = tile_text tile ++ codes ".terrain"
-text_of (Note tile) = tile_text tile ++ codes ".txt"
+abbrev pub name_text : Key → List ℕ
+name_text Manifest = codes "manifest.txt"
+name_text Layer = codes "layer.json"
+name_text Stage = codes "stage.dt"
+name_text (Cell key) = codes "cells/" ++ (key_text (codes ".") key ++ codes ".dt")
+name_text (OldCell square) = codes "cells/" ++ (square_text square ++ codes ".dt")
+name_text (Terrain tile) = tile_text tile ++ codes ".terrain"
+name_text (Note tile) = tile_text tile ++ codes ".txt"
 
 -- the order of names: byte by byte, a text before those that it begins
 abbrev pub by_text : Key → Key → Ordering
-by_text = on text_of (slice_cmp nat_cmp)
+by_text = on name_text (slice_cmp nat_cmp)

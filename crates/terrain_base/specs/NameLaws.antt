@@ -6,7 +6,7 @@ use Rattle.terrain_base.specs.declared.cell_key.CellKey.{CellKey}
 use Rattle.terrain_base.specs.CellKey.{key_cmp}
 use Rattle.terrain_base.specs.declared.name.Key.{Key}
 use Rattle.terrain_base.specs.SquareText.{square_text}
-use Rattle.terrain_base.specs.Name.{key_text, row_text, text_of}
+use Rattle.terrain_base.specs.Name.{key_text, row_text, name_text}
 
 -- squares with one text are one square
 abbrev pub SquaresDiffer : Type 0
@@ -18,7 +18,7 @@ KeysDiffer = (a b : CellKey) → key_cmp a b ≡ Equal → a ≡ b
 
 -- names with one text are one name
 abbrev pub NamesDiffer : Type 0
-NamesDiffer = (a b : Key) → text_of a ≡ text_of b → a ≡ b
+NamesDiffer = (a b : Key) → name_text a ≡ name_text b → a ≡ b
 
 -- a key's text in a row is its square's text, a blank and its level's number in decimal
 abbrev pub RowsAreSpelt : Type 0

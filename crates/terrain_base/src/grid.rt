@@ -1,6 +1,6 @@
 // The heights of a tile's grid points.
 ghost use Rattle.std.specs.Prelude.{◌≡◌, ◌≤◌, ◌*◌, ◌+◌, IfOk, pos, replicate, slice_set, length};
-ghost use Rattle.terrain_base.specs.Grid.{height_in, spot, line_of, tolerance_of};
+ghost use Rattle.terrain_base.specs.Grid.{height_in, spot, line_position, tolerance_of};
 ghost use Rattle.terrain_base.specs.Height.{IsHeight};
 
 use crate::NoMemory;
@@ -68,7 +68,7 @@ impl Grid {
 /// which an edge has 32767.
 pub fn grid_line(i: u8) -> u16
     requires { i ≤ 66 }
-    ensures value { result ≡ line_of i }
+    ensures value { result ≡ line_position i }
     ensures within { result ≤ 32767 }
 {
     (32767 * i as u32 / 66) as u16

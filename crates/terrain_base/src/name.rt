@@ -5,7 +5,7 @@ ghost use Rattle.std.specs.Cmp.{partial_order_from_own_ties};
 ghost use Rattle.std.specs.Cmp.Lexicographic.{pointwise};
 ghost use Rattle.std.specs.Cmp.Rules.{comparing};
 ghost use Rattle.std.specs.Ordering.{on, as_partial_cmp};
-ghost use Rattle.terrain_base.specs.Name.{text_of, tile_text, by_text};
+ghost use Rattle.terrain_base.specs.Name.{name_text, tile_text, by_text};
 
 use crate::text::Text;
 use crate::{CellKey, Square, TileId, level_number};
@@ -45,13 +45,13 @@ impl Model for Name {
 
     ghost Value = { Key };
 
-    ghost use Rattle.terrain_base.specs.Name.{text_of};
+    ghost use Rattle.terrain_base.specs.Name.{name_text};
 
     ghost view = { λ name. name.key };
 
-    ghost invariant = { λ name. name.text ≡ text_of name.key };
+    ghost invariant = { λ name. name.text ≡ name_text name.key };
 
-    ghost inverse = { λ key. record { key = key; text = text_of key } };
+    ghost inverse = { λ key. record { key = key; text = name_text key } };
 
     ghost inverse_ok = { λ name h. λ i. record { key = name.key; text = sym h i } };
 }
@@ -65,7 +65,7 @@ impl Clone for Name {
 impl Copy for Name {}
 
 impl PartialEq for Name {
-    ghost eq = { on text_of (pointwise ◌==◌) };
+    ghost eq = { on name_text (pointwise ◌==◌) };
 
     ghost laws = { Prim.search (comparing, rules) };
 
@@ -218,7 +218,7 @@ impl Name {
 
     /// Its text, of at most 22 bytes.
     pub fn bytes(&self) -> &[u8]
-        ensures { result.now ≡ text_of self.now }
+        ensures { result.now ≡ name_text self.now }
     {
         self.text.as_bytes()
     }

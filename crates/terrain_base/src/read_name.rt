@@ -4,7 +4,7 @@ ghost use Rattle.terrain_base.specs.declared.name.Key as key;
 ghost use Rattle.terrain_base.specs.declared.tile.TileId as tile;
 ghost use Rattle.terrain_base.specs.declared.square.Square as square;
 ghost use Rattle.terrain_base.specs.declared.level.CellLevel as level;
-ghost use Rattle.terrain_base.specs.Name.{text_of, tile_text};
+ghost use Rattle.terrain_base.specs.Name.{name_text, tile_text};
 ghost use Rattle.terrain_base.specs.NameParts.{cell_stem, level_ending, stem_of, ending_of};
 
 use crate::{CellKey, CellLevel, Name, Square, TileId};
@@ -61,7 +61,7 @@ fn guess_parts(stem: &str, ending: &str) -> Option<Name>
 
 // The name with these bytes. Where they are no name's, maybe a name all the same.
 fn guess(bytes: &[u8]) -> Option<Name>
-    ensures { (wanted : key.Key) → bytes.now ≡ text_of wanted → result ≡ Some wanted }
+    ensures { (wanted : key.Key) → bytes.now ≡ name_text wanted → result ≡ Some wanted }
 {
     let (stem, ending) = str::from_utf8(bytes).ok()?.split_once('.')?;
     guess_parts(stem, ending)
@@ -70,8 +70,8 @@ fn guess(bytes: &[u8]) -> Option<Name>
 impl Name {
     /// The name that has these bytes. `None` exactly where they are no name's.
     pub fn read(bytes: &[u8]) -> Option<Name>
-        ensures some { IfSome result (λ name. bytes.now ≡ text_of name) }
-        ensures none { IfNone result ((name : key.Key) → bytes.now ≢ text_of name) }
+        ensures some { IfSome result (λ name. bytes.now ≡ name_text name) }
+        ensures none { IfNone result ((name : key.Key) → bytes.now ≢ name_text name) }
     {
         let name = guess(bytes)?;
         if name.bytes() == bytes {

@@ -2,8 +2,8 @@
 ghost use Rattle.terrain_base.specs.Height.{IsHeight};
 
 use std::alloc::Global;
-use terrain_base::{Grid, NoMemory};
-use tile_mesh::{Side, TileMesh, mesh_of};
+use terrain_base::{Grid, NoMemory, Side};
+use tile_mesh::{TileMesh, mesh_of};
 
 // The offset basis and the prime of FNV-1a, whose step is done on whole numbers here.
 const START: u64 = 14_695_981_039_346_656_037;

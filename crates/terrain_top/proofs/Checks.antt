@@ -10,7 +10,7 @@ use Rattle.database.specs.State.{State}
 use Rattle.db_check.specs.declared.verdict.CheckVerdict.{CheckVerdict}
 use Rattle.db_check.specs.Verdict.{IsVerdictOf}
 use Rattle.db_check.proofs.Exactness.{one_verdict}
-use Rattle.db_engine.specs.Holding.{Holds}
+use Rattle.db_engine.specs.Holding.{HoldsState}
 use Rattle.db_engine.specs.Opened.{Contents}
 use Rattle.db_report.specs.Check.{check_line_of}
 use Rattle.top_reply.specs.declared.stop.Stop.{Stop}
@@ -24,7 +24,7 @@ use Rattle.terrain_top.proofs.EditsGo.{at_memory, at_stop, some_line, stop_untol
 use Rattle.terrain_top.proofs.Whole.{same_files}
 
 module _ (s : State) (files : Files) (course : Course) (held held' : Option Files) (log log' : Option (List Change))
-    (o : Contents) (work work' : ℕ) (is : held ≡ Some files) (h : Holds held o s) (of : IsChecked s files course)
+    (o : Contents) (work work' : ℕ) (is : held ≡ Some files) (h : HoldsState held o s) (of : IsChecked s files course)
     (same : held' ≡ held) (logged : log' ≡ log) where
   as_course : (result : Result Answer Stop) → TurnOf (check_course s of.verdict) held held' log log' work work' result
       → TurnOf course held held' log log' work work' result

@@ -13,7 +13,7 @@ use Rattle.database.specs.Answer.{IsStop}
 use Rattle.database.specs.Commands.{Command, edit_of, refusal_of}
 use Rattle.database.specs.State.{State}
 use Rattle.db_engine.specs.Edited.{Edited, EditedBy, EditRan, Refused, Turned}
-use Rattle.db_engine.specs.Holding.{Holds}
+use Rattle.db_engine.specs.Holding.{HoldsState}
 use Rattle.db_engine.specs.Opened.{Contents}
 use Rattle.db_engine.specs.Rows.{refusal_by_rows}
 use Rattle.db_engine.proofs.CellRows.{refusal_is}
@@ -88,7 +88,7 @@ at_memory {held = held} {held' = held'} {log = log} {log' = log'} steps e d p =
 
 -- ---- an edit
 
-pub tiles_are : {held : Option Files} {o : Contents} {t : State} → Holds held o t → tiles_of o ≡ tiles_in t
+pub tiles_are : {held : Option Files} {o : Contents} {t : State} → HoldsState held o t → tiles_of o ≡ tiles_in t
 tiles_are h = λ i. tile_count_of (h.params_is i).cap (h.rows_is i)
 
 module _ (c : Command) (s : State) (held held' : Option Files) (log log' : Option (List Change)) (o o' : Contents)
@@ -119,7 +119,7 @@ module _ (c : Command) (s : State) (held held' : Option Files) (log log' : Optio
   stopped refusal (Err e) ran tells = at_stop (done_edit c s).steps e refusal ran.ran.err tells.1
 
   turned_down : (refusal : EngineAnswer) (result : Result Answer Stop) → o.live ≡ true → o' ≡ o → held' ≡ held → log' ≡ log
-      → work' ≡ work → Holds held' o' s
+      → work' ≡ work → HoldsState held' o' s
       → Answers (done_reply (edited_line_of edited square (tiles_of o'))) (Err refusal) result
       → EditGoes (refused_edit (cause_of refusal) s) held held' log log' o' work work' result
   turned_down refusal (Ok a) live same held_is log_is work_is holds tells = let says = told_says refusal a tells.0 in record {
@@ -154,7 +154,7 @@ module _ (c : Command) (s : State) (held held' : Option Files) (log log' : Optio
       turned_down refusal result live down.opened down.same_held down.same_log down.same_work ran.holds told
 
   pub edit_goes : (faults faults' : ℕ) (done : Result (Unit {0}) EngineAnswer) (result : Result Answer Stop)
-      → Holds held o s → o.live ≡ true → Edited c s held held' log log' o' work work' done
+      → HoldsState held o s → o.live ≡ true → Edited c s held held' log log' o' work work' done
       → ((refusal : EngineAnswer) → refusal_by_rows c o.rows ≡ Some refusal
       → Refused refusal o o' held held' log log' faults faults' work work' done)
       → (refusal_by_rows c o.rows ≡ None → Turned (edit_of c) o o' done)
@@ -165,7 +165,7 @@ module _ (c : Command) (s : State) (held held' : Option Files) (log log' : Optio
 
 -- an edit that is refused before the database is asked
 pub refused_goes : (cause : List ℕ) (s : State) (held : Option Files) (log : Option (List Change)) (o : Contents) (work : ℕ)
-    (result : Result Answer Stop) → Holds held o s → o.live ≡ true → IfOk result (Says (refused_reply cause))
+    (result : Result Answer Stop) → HoldsState held o s → o.live ≡ true → IfOk result (Says (refused_reply cause))
     → OnlyMemory result → EditGoes (refused_edit cause s) held held log log o work work result
 refused_goes cause s held log o work (Ok a) holds live says memory = record {
   turn = record { status_is = says.status; text = says.text; some = some_cause cause; steps = quiet refl refl; tiles = omega arith };

@@ -8,7 +8,7 @@ use Rattle.database.specs.declared.answer.EngineAnswer.{EngineAnswer}
 use Rattle.database.specs.declared.answer.EngineAnswer.TheVariants.{NoTile}
 use Rattle.database.specs.Answer.{IsStop}
 use Rattle.database.specs.State.{State, tile_exists}
-use Rattle.db_engine.specs.Holding.{Holds}
+use Rattle.db_engine.specs.Holding.{HoldsState}
 use Rattle.db_engine.specs.Opened.{Contents}
 use Rattle.heightmap_out.specs.Tile.{heightmap_of}
 use Rattle.top_reply.specs.declared.stop.Stop.{Stop}
@@ -36,7 +36,7 @@ in_place T refusal = Err refusal
 one_answer : (T : Type 0) (refusal other : EngineAnswer) → in_place T refusal ≡ in_place T other → refusal ≡ other
 one_answer T refusal other e = cc
 
-module _ (s : State) (tile : TileId) (held : Option Files) (o : Contents) (h : Holds held o s) where
+module _ (s : State) (tile : TileId) (held : Option Files) (o : Contents) (h : HoldsState held o s) where
   there_is : tile_exists s tile ≡ exists_of o.params.cap o.rows tile
   there_is = sym (λ i. exists_of (h.params_is i).cap (h.rows_is i) tile)
 

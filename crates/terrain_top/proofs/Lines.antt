@@ -6,7 +6,7 @@ use Rattle.terrain_base.specs.Library.{LibraryFiles}
 use Rattle.terrain_base.specs.Sink.{FrontTaken}
 use Rattle.top_words.specs.Script.{Line, Passed, Change, NoCommand}
 use Rattle.database.specs.State.{State}
-use Rattle.db_engine.specs.Holding.{Holds}
+use Rattle.db_engine.specs.Holding.{HoldsState}
 use Rattle.db_engine.specs.Opened.{Contents}
 use Rattle.db_report.specs.Done.{script_mark_of}
 use Rattle.top_reply.specs.declared.stop.Stop.{Stop}
@@ -131,7 +131,7 @@ module _ (library : LibraryFiles) (number : ℕ) where
 
   -- it is passed over
   pub line_passed : (line : Line) (s : State) (w : World) (o : Contents) (tally : Tally) → None ≡ line_wanted line library
-      → Holds w.held o s → tally.done ≡ 0 → tally.refused ≡ 0
+      → HoldsState w.held o s → tally.done ≡ 0 → tally.refused ≡ 0
       → LinesDone library (commands_of number (line ∷ [])) s w w o tally
   line_passed Passed s w o tally is h d r = record { turns = turns_none w; holds = h; done = d; refused = r }
   line_passed (Change edit) s w o tally is h d r = absurd (cc is)
@@ -176,7 +176,7 @@ module _ (library : LibraryFiles) where
       → LinesDone library ys (after_lines library xs s) m w' o' u → LinesDone library (xs ++ ys) s w w' o' v
   lines_both xs ys s w m w' o o' t u v d r a b = record {
     turns = subst (λ ts. TurnsDone ts w w') (sym (turns_of-append xs ys s)) (turns_both a.turns b.turns);
-    holds = subst (λ x. Holds w'.held o' x) (sym (after-append xs ys s)) b.holds;
+    holds = subst (λ x. HoldsState w'.held o' x) (sym (after-append xs ys s)) b.holds;
     done = d ∙ (λ i. a.done i + b.done i) ∙ sym (done-append xs ys s);
     refused = r ∙ (λ i. a.refused i + b.refused i) ∙ sym (refused-append xs ys s);
   }

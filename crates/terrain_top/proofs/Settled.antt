@@ -17,7 +17,7 @@ use Rattle.database.specs.Opening as opens
 use Rattle.database.specs.Opening.{OpensAs}
 use Rattle.database.specs.State.{State, ReadsAs}
 use Rattle.database.proofs.Openings.{one_opening}
-use Rattle.db_engine.specs.Holding.{Holds}
+use Rattle.db_engine.specs.Holding.{HoldsState}
 use Rattle.db_engine.specs.Opened.{Contents}
 use Rattle.db_engine.specs.Settling.{IsIdle, IsLeft, IsOpened, IsRefusal, count_settling}
 use Rattle.top_reply.specs.declared.stop.Stop.{Stop}
@@ -41,7 +41,7 @@ module _ (command : DatabaseCommand) (library : LibraryFiles) (files : Files) (w
     → AllDone (settling mark files s) w.held w.log m.held m.log)
     (few : (s : State) (mark : ManifestState) → ReadsAs files s mark → m.work ≤ w.work + count_settling mark s)
     (taken : m.taken ≡ w.taken)
-    (comes : (s : State) (held : Files) (course : Course) → Holds m.held o s → m.held ≡ Some held
+    (comes : (s : State) (held : Files) (course : Course) → HoldsState m.held o s → m.held ≡ Some held
     → IsOpenedCourse command library s held course → Comes course m w' result) where
   held_is : m.held ≡ Some (all_changed (settling opened.mark files opened.state) files)
   held_is = let steps = settling opened.mark files opened.state in
@@ -64,7 +64,7 @@ module _ (command : DatabaseCommand) (library : LibraryFiles) (files : Files) (w
       (subst (λ x. IsDatabaseCourse command library files x course)
       (one_opening files opening (opens.Opens opened.state opened.mark) opening_is opened.reads) course_is)
 
-  pub settled_told : ((s : State) (held : Files) → Holds m.held o s → m.held ≡ Some held
+  pub settled_told : ((s : State) (held : Files) → HoldsState m.held o s → m.held ≡ Some held
       → IfOk result (λ a. HasOpened command library s held)) → IfOk result (λ a. HasOfDatabase command library files)
   settled_told told = has_of result (told opened.state (all_changed (settling opened.mark files opened.state) files) opened.holds held_is)
     where

@@ -21,7 +21,7 @@ use Rattle.availability.specs.Existence.{exists_of}
 use Rattle.database.specs.declared.answer.EngineAnswer.{EngineAnswer}
 use Rattle.database.specs.declared.answer.EngineAnswer.TheVariants as answer
 use Rattle.database.specs.State.{State, tile_exists}
-use Rattle.db_engine.specs.Holding.{Holds}
+use Rattle.db_engine.specs.Holding.{HoldsState}
 use Rattle.db_engine.specs.Opened.{Contents}
 use Rattle.db_engine.specs.Stored.{IsLost, IsNotStored}
 use Rattle.top_words.specs.declared.command.Query.TheVariants.{Surface}
@@ -178,7 +178,7 @@ unstored_surface tile question files exists refusal (Err e) is told = tt
 -- ---- over a database that is opened
 
 module _ (tile : TileId) (question : Question) (s : State) (files : Files) (held : Option Files) (o : Contents)
-    (h : Holds held o s) where
+    (h : HoldsState held o s) where
   there_is : exists_of o.params.cap o.rows tile ≡ tile_exists s tile
   there_is = λ i. exists_of (h.params_is i).cap (h.rows_is i) tile
 

@@ -14,7 +14,7 @@ use Rattle.database.specs.declared.answer.EngineAnswer.TheVariants as answer
 use Rattle.database.specs.Commands.{existing, rebuild_calls}
 use Rattle.database.specs.State.{State}
 use Rattle.db_files.specs.Serving.{count_existing}
-use Rattle.db_engine.specs.Holding.{Holds, IsFull, no_cells}
+use Rattle.db_engine.specs.Holding.{HoldsState, IsFull, no_cells}
 use Rattle.db_engine.specs.Opened.{Contents}
 use Rattle.db_engine.specs.Settling.{IsIdle}
 use Rattle.db_report.specs.Done.{created_line_of, rebuilt_line_of}
@@ -124,11 +124,11 @@ module _ (params : Params) (files : Files) (held held' : Option Files) (log log'
 -- ---- it is made anew
 
 pub same_files : {held : Option Files} {o : Contents} {s : State} (files : Files) → held ≡ Some files
-    → (h : Holds held o s) → h.files ≡ files
+    → (h : HoldsState held o s) → h.files ≡ files
 same_files files is h = let both : Some h.files ≡ Some files = sym h.held_is ∙ is in cc
 
 module _ (s : State) (files : Files) (held held' : Option Files) (log log' : Option (List Change)) (o o' : Contents)
-    (work work' : ℕ) (is : held ≡ Some files) (h : Holds held o s) where
+    (work work' : ℕ) (is : held ≡ Some files) (h : HoldsState held o s) where
   pub anew : (result : Result Answer Stop) → AllDone (rebuild_calls h.files s) held log held' log' → o' ≡ o
       → work' ≤ work + count_existing s (existing s) → IfOk result (Says (done_reply (rebuilt_line_of (tiles_of o'))))
       → OnlyMemory result → TurnOf (rebuilt_course s files) held held' log log' work work' result

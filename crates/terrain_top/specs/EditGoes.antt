@@ -7,7 +7,7 @@ use Rattle.cell_mosaic.specs.Whole.{key_in}
 use Rattle.availability.specs.Count.{tile_count_of}
 use Rattle.database.specs.declared.answer.EngineAnswer.{EngineAnswer}
 use Rattle.database.specs.Commands.{Command}
-use Rattle.db_engine.specs.Holding.{Holds}
+use Rattle.db_engine.specs.Holding.{HoldsState}
 use Rattle.db_engine.specs.Opened.{Contents}
 use Rattle.top_reply.specs.declared.stop.Stop.{Stop}
 use Rattle.top_reply.specs.Edits.{EditReply, Refused, Wants, edit_turn, status_by, wanted_of}
@@ -40,7 +40,7 @@ Answers reply (Err refusal) result = IfOk result (IsTold refusal) × IfErr resul
 pub record EditDone (reply : EditReply) (held held' : Option Files) (log log' : Option (List Change))
     (opened' : Contents) (work work' : ℕ) (answer : Answer) : Type 0 where
   pub turn : TurnDone (status_by reply.refused) (edit_turn reply) held held' log log' work work' answer
-  pub holds : Holds held' opened' reply.next
+  pub holds : HoldsState held' opened' reply.next
   pub live : opened'.live ≡ true
 
 abbrev pub EditGoes : EditReply → Option Files → Option Files → Option (List Change) → Option (List Change) → Contents

@@ -5,7 +5,7 @@ use Rattle.terrain_base.specs.Library.{LibraryFiles}
 use Rattle.terrain_base.specs.Sink.{FrontTaken}
 use Rattle.top_words.specs.Script.{Line, Passed, Change, NoCommand}
 use Rattle.database.specs.State.{State}
-use Rattle.db_engine.specs.Holding.{Holds}
+use Rattle.db_engine.specs.Holding.{HoldsState}
 use Rattle.db_engine.specs.Opened.{Contents}
 use Rattle.db_report.specs.Done.{script_mark_of}
 use Rattle.top_reply.specs.declared.stop.Stop.{Stop}
@@ -56,7 +56,7 @@ ended_reply done refused = record { status = status_by (nat_lt 0 refused); text 
 pub record LinesDone (library : LibraryFiles) (lines : List Numbered) (s : State) (w w' : World) (opened' : Contents)
     (tally : Tally) : Type 0 where
   pub turns : TurnsDone (turns_of library lines s) w w'
-  pub holds : Holds w'.held opened' (after_lines library lines s)
+  pub holds : HoldsState w'.held opened' (after_lines library lines s)
   pub done : tally.done ≡ done_in library lines s
   pub refused : tally.refused ≡ refused_in library lines s
 

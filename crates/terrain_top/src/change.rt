@@ -2,7 +2,7 @@
 ghost use Rattle.std.specs.Prelude.{◌≡◌, ◌≤◌, true, IfOk, Some};
 ghost use Rattle.terrain_base.specs.Step.{Files};
 ghost use Rattle.database.specs.State.{State};
-ghost use Rattle.db_engine.specs.Holding.{Holds};
+ghost use Rattle.db_engine.specs.Holding.{HoldsState};
 ghost use Rattle.top_reply.specs.Database.{init_course, rebuilt_course};
 ghost use Rattle.terrain_top.specs.EditGoes.{tiles_of};
 ghost use Rattle.terrain_top.specs.Effects.{OnlyMemory, OnStore};
@@ -57,7 +57,7 @@ pub(crate) fn answer_to_rebuild<St: Store>(
     work: &mut Work,
 ) -> Result<Answer, Stop>
     requires { opened.old.live ≡ true }
-    ensures goes { (s : State) (files : Files) → Holds (St.holds store.old) opened.old s
+    ensures goes { (s : State) (files : Files) → HoldsState (St.holds store.old) opened.old s
         → St.holds store.old ≡ Some files
         → TurnOf (rebuilt_course s files) (St.holds store.old) (St.holds store.new) (St.log store.old)
         (St.log store.new) work.old work.new result }

@@ -2,7 +2,7 @@
 ghost use Rattle.std.specs.Prelude.{◌≡◌, ◌≤◌, IfOk, Some, true};
 ghost use Rattle.terrain_base.specs.Step.{Files};
 ghost use Rattle.database.specs.State.{State};
-ghost use Rattle.db_engine.specs.Holding.{Holds};
+ghost use Rattle.db_engine.specs.Holding.{HoldsState};
 ghost use Rattle.top_reply.specs.Check.{IsChecked, check_reply, status_of_verdict};
 ghost use Rattle.top_reply.specs.Course.{Course};
 ghost use Rattle.terrain_top.specs.Effects.{OnlyMemory, OnStore};
@@ -50,7 +50,7 @@ pub(crate) fn answer_to_check<St: Store>(
     work: &mut Work,
 ) -> Result<Answer, Stop>
     requires { opened.now.live ≡ true }
-    ensures goes { (s : State) (files : Files) (course : Course) → Holds (St.holds store.old) opened.now s
+    ensures goes { (s : State) (files : Files) (course : Course) → HoldsState (St.holds store.old) opened.now s
         → St.holds store.old ≡ Some files → IsChecked s files course
         → TurnOf course (St.holds store.old) (St.holds store.new) (St.log store.old) (St.log store.new) work.old
         work.new result }

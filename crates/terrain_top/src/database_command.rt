@@ -4,7 +4,7 @@ ghost use Rattle.terrain_base.specs.Library.{LibraryFiles};
 ghost use Rattle.terrain_base.specs.Step.{Files};
 ghost use Rattle.database.specs.Opening.{Opening, OpensAs};
 ghost use Rattle.database.specs.State.{State};
-ghost use Rattle.db_engine.specs.Holding.{Holds};
+ghost use Rattle.db_engine.specs.Holding.{HoldsState};
 ghost use Rattle.top_words.specs.Meant.{database_meant};
 ghost use Rattle.top_words.specs.Words.{IsGoodOfDatabase};
 ghost use Rattle.top_reply.specs.Course.{Course, world};
@@ -41,12 +41,12 @@ fn answer_opened<St: Store, Li: Library, Si: Sink>(
     requires live { opened.old.live ≡ true }
     requires good { IsGoodOfDatabase (database_meant command.now) }
     ensures comes { (s : State) (held : Files) (library : LibraryFiles) (course : Course)
-        → Holds (St.holds store.old) opened.old s → St.holds store.old ≡ Some held
+        → HoldsState (St.holds store.old) opened.old s → St.holds store.old ≡ Some held
         → Tells (database_reads (database_meant command.now)) (Li.holds files.old) library
         → IsOpenedCourse (database_meant command.now) library s held course → Comes course
         (world (St.holds store.old) (St.log store.old) (Si.taken out.old) work.old)
         (world (St.holds store.new) (St.log store.new) (Si.taken out.new) work.new) result }
-    ensures has { (s : State) (held : Files) (library : LibraryFiles) → Holds (St.holds store.old) opened.old s
+    ensures has { (s : State) (held : Files) (library : LibraryFiles) → HoldsState (St.holds store.old) opened.old s
         → St.holds store.old ≡ Some held
         → IfOk result (λ answer. HasOpened (database_meant command.now) library s held) }
     ensures same { Li.holds files.new ≡ Li.holds files.old }

@@ -4,7 +4,7 @@ ghost use Rattle.std.specs.FinMap as map;
 ghost use Rattle.terrain_base.specs.Library.{LibraryFiles};
 ghost use Rattle.database.specs.declared.answer.EngineAnswer.TheVariants as engine;
 ghost use Rattle.database.specs.State.{State};
-ghost use Rattle.db_engine.specs.Holding.{Holds};
+ghost use Rattle.db_engine.specs.Holding.{HoldsState};
 ghost use Rattle.db_report.specs.Done.{edited_line_of};
 ghost use Rattle.top_words.specs.Meant.{edit_meant};
 ghost use Rattle.top_reply.specs.Edits.{edit_reply, wanted, wanted_reply};
@@ -128,7 +128,7 @@ pub(crate) fn carry_out<St: Store>(
     work: &mut Work,
 ) -> Result<Answer, Stop>
     requires { opened.old.live ≡ true }
-    ensures goes { (s : State) → Holds (St.holds store.old) opened.old s
+    ensures goes { (s : State) → HoldsState (St.holds store.old) opened.old s
         → EditGoes (wanted_reply (wanted_meant wanted) s) (St.holds store.old) (St.holds store.new)
         (St.log store.old) (St.log store.new) opened.new work.old work.new result }
     ensures plain { IfOk result IsPlain }
@@ -168,7 +168,7 @@ pub(crate) fn answer_to_edit<St: Store, Li: Library>(
     work: &mut Work,
 ) -> Result<Answer, Stop>
     requires { opened.old.live ≡ true }
-    ensures goes { (s : State) (library : LibraryFiles) → Holds (St.holds store.old) opened.old s
+    ensures goes { (s : State) (library : LibraryFiles) → HoldsState (St.holds store.old) opened.old s
         → Tells (edit_reads (edit_meant edit.now)) (Li.holds files.old) library
         → EditGoes (edit_reply (edit_meant edit.now) library s) (St.holds store.old) (St.holds store.new)
         (St.log store.old) (St.log store.new) opened.new work.old work.new result }

@@ -9,7 +9,7 @@ ghost use Rattle.terrain_top.specs.Told.{HasReply};
 ghost use Rattle.terrain_base.specs.Step.{Files};
 ghost use Rattle.availability.specs.Existence.{exists_of};
 ghost use Rattle.database.specs.State.{State};
-ghost use Rattle.db_engine.specs.Holding.{Holds};
+ghost use Rattle.db_engine.specs.Holding.{HoldsState};
 ghost use Rattle.tile_query.specs.Question.{IsGoodQuestion};
 ghost use Rattle.top_words.specs.Words.{IsGoodQuery};
 ghost use Rattle.top_reply.specs.Query.{IsInspected, IsReplyTo, IsSurfaceAsked, IsSurfaceReply, deps_reply};
@@ -120,7 +120,7 @@ fn answer_to_heightmap<St: Store>(
     tile: TileId,
 ) -> Result<Answer, Stop>
     requires { opened.now.live ≡ true }
-    ensures says { (s : State) → Holds (St.holds store.old) opened.now s
+    ensures says { (s : State) → HoldsState (St.holds store.old) opened.now s
         → IfOk result (Says (heightmap_reply tile s)) }
     ensures plain { IfOk result IsPlain }
     ensures same { St.holds store.new ≡ St.holds store.old }
@@ -189,9 +189,9 @@ pub(crate) fn answer_to_query<St: Store>(
 ) -> Result<Answer, Stop>
     requires live { opened.now.live ≡ true }
     requires good { IsGoodQuery query }
-    ensures says { (s : State) (files : Files) (reply : Reply) → Holds (St.holds store.old) opened.now s
+    ensures says { (s : State) (files : Files) (reply : Reply) → HoldsState (St.holds store.old) opened.now s
         → St.holds store.old ≡ Some files → IsReplyTo query s files reply → IfOk result (Says reply) }
-    ensures has { (s : State) (files : Files) → Holds (St.holds store.old) opened.now s
+    ensures has { (s : State) (files : Files) → HoldsState (St.holds store.old) opened.now s
         → St.holds store.old ≡ Some files → IfOk result (λ answer. HasReply query s files) }
     ensures plain { IfOk result IsPlain }
     ensures same { St.holds store.new ≡ St.holds store.old }

@@ -5,7 +5,7 @@ ghost use Rattle.std.specs.FinMap as finmap;
 ghost use Rattle.terrain_base.specs.Library.{LibraryFiles};
 ghost use Rattle.terrain_base.specs.Sink.{FrontTaken};
 ghost use Rattle.database.specs.State.{State};
-ghost use Rattle.db_engine.specs.Holding.{Holds};
+ghost use Rattle.db_engine.specs.Holding.{HoldsState};
 ghost use Rattle.db_report.specs.Done.{script_mark_of};
 ghost use Rattle.top_words.specs.Meant.{line_meant};
 ghost use Rattle.top_reply.specs.Course.{Course, world};
@@ -135,7 +135,7 @@ fn do_line<St: Store, Li: Library, Si: Sink>(
     work: &mut Work,
 ) -> Result<LinesAnswer, Stop>
     requires { opened.old.live ≡ true }
-    ensures goes { (s : State) (library : LibraryFiles) → Holds (St.holds store.old) opened.old s
+    ensures goes { (s : State) (library : LibraryFiles) → HoldsState (St.holds store.old) opened.old s
         → Li.holds files.old ≡ Some library → LinesGo library (commands_of number (line_meant line.now ∷ [])) s
         (world (St.holds store.old) (St.log store.old) (Si.taken out.old) work.old)
         (world (St.holds store.new) (St.log store.new) (Si.taken out.new) work.new) opened.new result }
@@ -172,7 +172,7 @@ fn do_lines<St: Store, Li: Library, Si: Sink>(
     work: &mut Work,
 ) -> Result<LinesAnswer, Stop>
     requires { opened.old.live ≡ true }
-    ensures goes { (s : State) (library : LibraryFiles) → Holds (St.holds store.old) opened.old s
+    ensures goes { (s : State) (library : LibraryFiles) → HoldsState (St.holds store.old) opened.old s
         → Li.holds files.old ≡ Some library → LinesGo library (commands_of 1 (map line_meant lines.now)) s
         (world (St.holds store.old) (St.log store.old) (Si.taken out.old) work.old)
         (world (St.holds store.new) (St.log store.new) (Si.taken out.new) work.new) opened.new result }
@@ -226,7 +226,7 @@ pub(crate) fn answer_to_apply<St: Store, Li: Library, Si: Sink>(
     work: &mut Work,
 ) -> Result<Answer, Stop>
     requires { opened.old.live ≡ true }
-    ensures comes { (s : State) (library : LibraryFiles) (course : Course) → Holds (St.holds store.old) opened.old s
+    ensures comes { (s : State) (library : LibraryFiles) (course : Course) → HoldsState (St.holds store.old) opened.old s
         → Li.holds files.old ≡ Some library
         → IsApplied (found_in script.now script_limit (finmap.get library script.now)) library s course
         → Comes course (world (St.holds store.old) (St.log store.old) (Si.taken out.old) work.old)

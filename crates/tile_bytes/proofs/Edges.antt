@@ -3,7 +3,7 @@ use Rattle.std.proofs.Common.{◌≡◌, ℕ, ◌+◌, ◌^◌, ◌<◌, arith, 
 use Rattle.std.proofs.lemmas.List.{length-map}
 use Rattle.height_lattice.specs.declared.height_frame.HeightFrame.{HeightFrame}
 use Rattle.mesh_codec.specs.declared.codes.Codes.{Codes}
-use Rattle.tile_mesh.specs.declared.side.Side.{Side}
+use Rattle.terrain_base.specs.declared.side.Side.{Side}
 use Rattle.tile_mesh.specs.Mesh.{Mesh, edge_of}
 use Rattle.tile_mesh.specs.MeshNumbers.{IsNumbered}
 use Rattle.tile_rule.specs.Tile.{codes_of}

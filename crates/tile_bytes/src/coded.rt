@@ -7,8 +7,8 @@ ghost use Rattle.tile_mesh.specs.MeshNumbers.{IsVertexOnGrid};
 ghost use Rattle.tile_rule.specs.Tile.{codes_of};
 
 use height_lattice::{HeightFrame, code};
-use mesh_codec::{CodeMesh, Edge};
-use terrain_base::{Indexes, NoMemory, grid_line};
+use mesh_codec::CodeMesh;
+use terrain_base::{Indexes, NoMemory, Side, grid_line};
 use tile_mesh::MeshPoint;
 
 /// Adds vertices by their codes in the frame.
@@ -44,7 +44,7 @@ pub fn add_triangles(coded: &mut CodeMesh, triangles: &[Indexes]) -> Result<(), 
 }
 
 /// Adds the vertices of an edge.
-pub fn add_list(coded: &mut CodeMesh, edge: Edge, list: &[u32]) -> Result<(), NoMemory>
+pub fn add_list(coded: &mut CodeMesh, edge: Side, list: &[u32]) -> Result<(), NoMemory>
     requires in_range { All (λ vertex. vertex < length coded.old.vertices) list.now }
     requires room { length (edge_of coded.old edge) + length list.now < 2 ^ 32 }
     ensures { OnOk result (coded.new ≡ with_list coded.old edge (edge_of coded.old edge ++ list.now)) }

@@ -8,10 +8,10 @@ ghost use Rattle.tile_bytes.specs.Surface.{surface_by};
 
 use crate::coded::{add_list, add_triangles, add_vertices};
 use height_lattice::HeightFrame;
-use mesh_codec::{CodeMesh, Edge};
+use mesh_codec::CodeMesh;
 use std::alloc::Global;
-use terrain_base::NoMemory;
-use tile_mesh::{Side, TileMesh};
+use terrain_base::{NoMemory, Side};
+use tile_mesh::TileMesh;
 
 // The vertices and triangles of the mesh by their codes.
 fn surface(alloc: Global, frame: &HeightFrame, mesh: &TileMesh) -> Result<CodeMesh, NoMemory>
@@ -36,9 +36,9 @@ pub fn coded_mesh(alloc: Global, frame: &HeightFrame, mesh: &TileMesh) -> Result
     ensures { IfOk result (λ coded. coded ≡ coded_by frame.now mesh.now) }
 {
     let mut coded = surface(alloc, frame, mesh)?;
-    add_list(&mut coded, Edge::West, mesh.edge(Side::West))?;
-    add_list(&mut coded, Edge::South, mesh.edge(Side::South))?;
-    add_list(&mut coded, Edge::East, mesh.edge(Side::East))?;
-    add_list(&mut coded, Edge::North, mesh.edge(Side::North))?;
+    add_list(&mut coded, Side::West, mesh.edge(Side::West))?;
+    add_list(&mut coded, Side::South, mesh.edge(Side::South))?;
+    add_list(&mut coded, Side::East, mesh.edge(Side::East))?;
+    add_list(&mut coded, Side::North, mesh.edge(Side::North))?;
     Ok(coded)
 }

@@ -25,22 +25,22 @@ use Rattle.tile_rule.proofs.Vertices.{HasFrame}
 
 -- the mesh of the rule in metres
 abbrev pub field_in : Mesh → MetreMesh
-field_in m = record { corners = map plane.corner_of m.points; indexes = m.triangles }
+field_in m = record { corners = map plane.point_corner m.points; indexes = m.triangles }
 
 -- ---- its triangles are those of the rule
 same_corner : (points : List MeshPoint) (i : ℕ)
-    → corner_at (map plane.corner_of points) i ≡ plane.corner_of (plane.vertex points i)
+    → corner_at (map plane.point_corner points) i ≡ plane.point_corner (plane.vertex points i)
 same_corner [] i = refl
 same_corner (p ∷ ps) zero = refl
 same_corner (p ∷ ps) (suc i) = same_corner ps i
 
 same_tri : (points : List MeshPoint) (t : Indexes)
-    → plane.triangle_of points t ≡ tri_at (map plane.corner_of points) t
+    → plane.triangle_of points t ≡ tri_at (map plane.point_corner points) t
 same_tri points t = rw (same_corner points t.a, same_corner points t.b, same_corner points t.c) refl
 
 pub metres_cover : (m : Mesh) → Covers (plane.triangles_in m) → Covers (triangles_of (field_in m))
 metres_cover m covers =
-    let corners = map plane.corner_of m.points in
+    let corners = map plane.point_corner m.points in
     subst Covers (map_same (plane.triangle_of m.points) (tri_at corners) (same_tri m.points) m.triangles) covers
 
 -- ---- its vertices are those of the terrain
@@ -64,7 +64,7 @@ stands base metres range code h =
 module _ (header : Header) (frame : HeightFrame)
     (heights : AreHeights header frame.base (frame.base +ℤ pos frame.range)) (divides : frame.range ∣ 32767) where
   is_corner : (p : MeshPoint) → IsWithin frame p.metres → IsHeight p.metres
-      → IsCorner header (codes_of frame p) (plane.corner_of p)
+      → IsCorner header (codes_of frame p) (plane.point_corner p)
   is_corner p within height = record {
     least = frame.base;
     greatest = frame.base +ℤ pos frame.range;
@@ -80,7 +80,7 @@ module _ (header : Header) (frame : HeightFrame)
 
   pub are_corners : (points : List MeshPoint) → AllByRecursion (λ p. IsWithin frame p.metres) points
       → AllByRecursion (λ p. IsHeight p.metres) points
-      → AllZip (IsCorner header) (map (codes_of frame) points) (map plane.corner_of points)
+      → AllZip (IsCorner header) (map (codes_of frame) points) (map plane.point_corner points)
   are_corners [] within heights_are = tt
   are_corners (p ∷ ps) within heights_are =
       (is_corner p within.0 heights_are.0, are_corners ps within.1 heights_are.1)

@@ -61,7 +61,7 @@ module _ (frame : HeightFrame) where
   linear (p ∷ ps) d within (suc i) = linear ps d within.1 i
 
   same_corner : (points : List MeshPoint) (i : ℕ) → i < length points
-      → vertex_by (place_at points) (metres_at points) i ≡ plane.corner_of (plane.vertex points i)
+      → vertex_by (place_at points) (metres_at points) i ≡ plane.point_corner (plane.vertex points i)
   same_corner [] i l = absurd (omega (arith, l))
   same_corner (p ∷ ps) zero l = refl
   same_corner (p ∷ ps) (suc i) l = same_corner ps i (omega (arith, l))

@@ -19,15 +19,15 @@ use Rattle.edge_decimate.specs.KeptPoints.{kept_between, kept_points}
 use Rattle.edge_decimate.proofs.Neighbours.{AllNear, kept_near, all_test}
 use Rattle.quad_split.specs.Split.{is_split}
 use Rattle.terrain_base.specs.Grid as tile
-use Rattle.tile_mesh.specs.declared.side.Side.{Side}
-use Rattle.tile_mesh.specs.declared.side.Side.TheVariants.{West, South, East, North}
+use Rattle.terrain_base.specs.declared.side.Side.{Side}
+use Rattle.terrain_base.specs.declared.side.Side.TheVariants.{West, South, East, North}
 use Rattle.tile_mesh.specs.declared.point.GridPoint.{GridPoint}
 use Rattle.tile_mesh.specs.Kept.{Rises, RisesTo66}
 use Rattle.tile_mesh.specs.Merge.{merge}
 use Rattle.tile_mesh.specs.Mesh.{edge_heights, kept_on}
 use Rattle.tile_mesh.specs.Numbers.{point_eq, corners}
 use Rattle.tile_mesh.specs.Rule.{strip_triangles, border_split, leaf_ends, inner_points, border_triangles}
-use Rattle.tile_mesh.specs.Sides.{plane_side, outer_at, inner_at, step_at}
+use Rattle.tile_mesh.specs.Sides.{outer_at, inner_at, step_at}
 use Rattle.tile_mesh.proofs.EdgePoints.{Has, Found, or_cases, or_first, or_second, number_itself, placed_outers, kept_in_border}
 use Rattle.tile_mesh.proofs.FirstUses.{points_equal}
 use Rattle.tile_mesh.proofs.Framing.{border_is}
@@ -99,7 +99,7 @@ shown_found p grid (t ∷ ts) c f = first (or_cases (point_eq p t.a) _ f) (shown
 
 module _ (grid : List ℤ) (tol : ℕ) (side : Side) where
   -- ---- strips run counter-clockwise
-  is_outside : (s : Side) → IsOutside (plane_side s) (outer_line grid (pos 1) s) (inner_line grid (pos 1) s)
+  is_outside : (s : Side) → IsOutside s (outer_line grid (pos 1) s) (inner_line grid (pos 1) s)
   is_outside West = line_up grid (pos 1) one 0 1 (omega arith)
   is_outside South = line_up grid (pos 1) one 0 1 (omega arith)
   is_outside East = line_up grid (pos 1) one 65 66 (omega arith)
@@ -109,7 +109,7 @@ module _ (grid : List ℤ) (tol : ℕ) (side : Side) where
       → AllByRecursion (IsCcw (at grid (pos 1))) ts
   strip_ccw ends ts i =
       subst (λ (us : List (Triple GridPoint)). AllByRecursion (IsCcw (at grid (pos 1))) us) (sym i.list)
-      (runs_tile (at grid (pos 1)) (plane_side side) (outer_line grid (pos 1) side) (inner_line grid (pos 1) side)
+      (runs_tile (at grid (pos 1)) side (outer_line grid (pos 1) side) (inner_line grid (pos 1) side)
       (outer_at side 0) (inner_at side 1) (outer_at side 66) (inner_at side 65) i.first i.rest (is_outside side)
       (outer_across grid (pos 1) side 0) (inner_across grid (pos 1) side 1) i.runs).ccw
 
@@ -182,7 +182,7 @@ module _ (grid : List ℤ) (tol : ℕ) (side : Side) where
           shown = edge_shown (at grid (pos 1)) (height grid) (outer_at side a) (outer_at side x)
               (at grid (pos 1) (outer_at side q)) (L x -ℤ L q) (L q -ℤ L a) ts (on_edge side) h;
           near = near_numbers (height grid (outer_at side a)) (height grid (outer_at side x)) (height grid (outer_at side q))
-              (pos (tile.line_of a)) (pos (tile.line_of q)) (pos (tile.line_of x)) (pos tol) (rw (sym za, sym zx, sym zq) s);
+              (pos (tile.line_position a)) (pos (tile.line_position q)) (pos (tile.line_position x)) (pos tol) (rw (sym za, sym zx, sym zq) s);
         }
 
   -- ---- along the kept points
@@ -221,7 +221,7 @@ module _ (grid : List ℤ) (tol : ℕ) (side : Side) where
       found_or_near q x xs ts (subst (λ (a : ℕ). Rises a xs 66) (sym r.0) r.1) n (omega (arith, r.0)) l
       (subst (λ (ps : List GridPoint). Shows (at grid (pos 1)) (height grid) (chain (outer_at side x) ps) ts)
       (placed_outers side (merge xs ends) ∙ ap (λ (os : List ℕ). map (outer_at side) os) (merge_outers xs ends))
-      (shows_outer (at grid (pos 1)) (height grid) (plane_side side) (outer_at side x) (inner_at side 1) steps c))
+      (shows_outer (at grid (pos 1)) (height grid) side (outer_at side x) (inner_at side 1) steps c))
 
   walk_border : (q : ℕ) → q ≤ 66
       → AllByRecursion (IsCcw (at grid (pos 1))) (border_triangles (is_split grid tol) (kept_on grid tol) side)

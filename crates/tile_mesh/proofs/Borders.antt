@@ -8,7 +8,7 @@ use Rattle.mesh_plane.proofs.QuadLines.{hline, vline}
 use Rattle.quad_split.specs.Node.{is_node}
 use Rattle.quad_split.specs.Split.{is_split}
 use Rattle.quad_split.specs.Midpoints.{is_south_broken, is_west_broken}
-use Rattle.tile_mesh.specs.declared.side.Side.TheVariants.{West, South, East, North}
+use Rattle.terrain_base.specs.declared.side.Side.TheVariants.{West, South, East, North}
 use Rattle.tile_mesh.specs.Rule.{border_split, leaf_ends}
 use Rattle.tile_mesh.specs.Sides.{grid_point, inner_at}
 use Rattle.tile_mesh.proofs.InnerLists.{across}

@@ -5,21 +5,20 @@ use Rattle.std.specs.List.{list_any, AllByRecursion}
 use Rattle.std.proofs.lemmas.Int.{ints}
 use Rattle.std.proofs.lemmas.Bool.Decides.{nat_tests}
 use Rattle.mesh_plane.specs.Plane.{Point}
-use Rattle.mesh_plane.specs.Triangles as plane
 use Rattle.mesh_plane.specs.Triangles.{Triple, Step, Outer, Inner, cornered, strip}
 use Rattle.mesh_plane.specs.Fan.{InRect}
 use Rattle.mesh_plane.proofs.Tilings.{IsCcw, Held, all_append}
 use Rattle.mesh_plane.proofs.Edges.{meets_a, meets_b, meets_c}
 use Rattle.mesh_plane.proofs.StripHeights.{outers}
 use Rattle.quad_split.specs.Split.{is_split}
-use Rattle.tile_mesh.specs.declared.side.Side.{Side}
-use Rattle.tile_mesh.specs.declared.side.Side.TheVariants.{West, South, East, North}
+use Rattle.terrain_base.specs.declared.side.Side.{Side}
+use Rattle.terrain_base.specs.declared.side.Side.TheVariants.{West, South, East, North}
 use Rattle.tile_mesh.specs.declared.point.GridPoint.{GridPoint}
 use Rattle.tile_mesh.specs.Kept.{Rises, RisesTo66}
 use Rattle.tile_mesh.specs.Merge.{merge}
 use Rattle.tile_mesh.specs.Numbers.{IsOnGrid, point_eq, corners}
 use Rattle.tile_mesh.specs.Rule.{strip_triangles, border_split, leaf_ends, inner_points, leaf_triangles, border_triangles, triangles_of}
-use Rattle.tile_mesh.specs.Sides.{plane_side, outer_at, inner_at, step_at}
+use Rattle.tile_mesh.specs.Sides.{outer_at, inner_at, step_at}
 use Rattle.tile_mesh.proofs.BorderLines.{ends_rise}
 use Rattle.tile_mesh.proofs.FirstUses.{points_equal, point_itself}
 use Rattle.tile_mesh.proofs.Framing.{inner_box, border_is, leaves_tiled}
@@ -78,18 +77,18 @@ step_point : Step GridPoint → GridPoint
 step_point (Outer p) = p
 step_point (Inner p) = p
 
-each_cornered : (P : GridPoint → Type 0) (side : plane.Side) (o n x : GridPoint) → P o → P n → P x
+each_cornered : (P : GridPoint → Type 0) (side : Side) (o n x : GridPoint) → P o → P n → P x
     → P (cornered side o n x).a × P (cornered side o n x).b × P (cornered side o n x).c
-each_cornered P plane.South o n x a b c = (a, c, b)
-each_cornered P plane.East o n x a b c = (a, c, b)
-each_cornered P plane.North o n x a b c = (a, b, c)
-each_cornered P plane.West o n x a b c = (a, b, c)
+each_cornered P South o n x a b c = (a, c, b)
+each_cornered P East o n x a b c = (a, c, b)
+each_cornered P North o n x a b c = (a, b, c)
+each_cornered P West o n x a b c = (a, b, c)
 
 abbrev OfStep : (GridPoint → Type 0) → Step GridPoint → Type 0
 OfStep P (Outer p) = P p
 OfStep P (Inner p) = P p
 
-each_strip : (P : GridPoint → Type 0) (side : plane.Side) (o n : GridPoint) (steps : List (Step GridPoint)) → P o → P n
+each_strip : (P : GridPoint → Type 0) (side : Side) (o n : GridPoint) (steps : List (Step GridPoint)) → P o → P n
     → AllByRecursion (OfStep P) steps → Each P (strip side o n steps)
 each_strip P side o n [] a b h = tt
 each_strip P side o n (Outer x ∷ steps) a b h =
@@ -189,7 +188,7 @@ of_strip : (P : GridPoint → Type 0) (side : Side) (kept ends : List ℕ)
     → Each P (strip_triangles side kept (1 ∷ ends))
 of_strip P side [] ends f a g = tt
 of_strip P side (x ∷ xs) ends f a g =
-    each_strip P (plane_side side) (outer_at side x) (inner_at side 1) (map (step_at side) (merge xs ends))
+    each_strip P side (outer_at side x) (inner_at side 1) (map (step_at side) (merge xs ends))
     (f x (or_first (nat_eq x x) _ (number_itself x))) a
     (placed_each P side (merge xs ends)
     (merge_each (λ step. OfStep P (step_at side step)) xs ends
@@ -309,19 +308,19 @@ there : (p a b c : GridPoint) (cs : List GridPoint) → list_any (point_eq p) cs
     → list_any (point_eq p) (a ∷ b ∷ c ∷ cs) ≡ true
 there p a b c cs h = or_second (point_eq p a) _ (or_second (point_eq p b) _ (or_second (point_eq p c) _ h))
 
-here_outer : (side : plane.Side) (o n x : GridPoint) (ts : List (Triple GridPoint)) → Found o (cornered side o n x ∷ ts)
-here_outer plane.South o n x ts = here o o x n (corners ts) (inl refl)
-here_outer plane.East o n x ts = here o o x n (corners ts) (inl refl)
-here_outer plane.North o n x ts = here o o n x (corners ts) (inl refl)
-here_outer plane.West o n x ts = here o o n x (corners ts) (inl refl)
+here_outer : (side : Side) (o n x : GridPoint) (ts : List (Triple GridPoint)) → Found o (cornered side o n x ∷ ts)
+here_outer South o n x ts = here o o x n (corners ts) (inl refl)
+here_outer East o n x ts = here o o x n (corners ts) (inl refl)
+here_outer North o n x ts = here o o n x (corners ts) (inl refl)
+here_outer West o n x ts = here o o n x (corners ts) (inl refl)
 
-here_next : (side : plane.Side) (o n x : GridPoint) (ts : List (Triple GridPoint)) → Found x (cornered side o n x ∷ ts)
-here_next plane.South o n x ts = here x o x n (corners ts) (inr (inl refl))
-here_next plane.East o n x ts = here x o x n (corners ts) (inr (inl refl))
-here_next plane.North o n x ts = here x o n x (corners ts) (inr (inr refl))
-here_next plane.West o n x ts = here x o n x (corners ts) (inr (inr refl))
+here_next : (side : Side) (o n x : GridPoint) (ts : List (Triple GridPoint)) → Found x (cornered side o n x ∷ ts)
+here_next South o n x ts = here x o x n (corners ts) (inr (inl refl))
+here_next East o n x ts = here x o x n (corners ts) (inr (inl refl))
+here_next North o n x ts = here x o n x (corners ts) (inr (inr refl))
+here_next West o n x ts = here x o n x (corners ts) (inr (inr refl))
 
-pub found_outers : (p : GridPoint) (side : plane.Side) (o n : GridPoint) (steps : List (Step GridPoint))
+pub found_outers : (p : GridPoint) (side : Side) (o n : GridPoint) (steps : List (Step GridPoint))
     → list_any (point_eq p) (outers steps) ≡ true → Found p (strip side o n steps)
 found_outers p side o n [] h = absurd (let z = h in cc)
 found_outers p side o n (Outer x ∷ steps) h =
@@ -360,9 +359,9 @@ module _ (grid : List ℤ) (tol : ℕ) (kept : Side → List ℕ) (rises : (side
       subst (λ (ts : List (Triple GridPoint)). Found (outer_at side 0) ts) (sym s.list) (go s.first s.rest)
     where
       go : (t : Step GridPoint) (rest : List (Step GridPoint))
-          → Found (outer_at side 0) (strip (plane_side side) (outer_at side 0) (inner_at side 1) (t ∷ rest))
-      go (Outer x) rest = here_outer (plane_side side) (outer_at side 0) (inner_at side 1) x _
-      go (Inner x) rest = here_outer (plane_side side) (outer_at side 0) (inner_at side 1) x _
+          → Found (outer_at side 0) (strip side (outer_at side 0) (inner_at side 1) (t ∷ rest))
+      go (Outer x) rest = here_outer side (outer_at side 0) (inner_at side 1) x _
+      go (Inner x) rest = here_outer side (outer_at side 0) (inner_at side 1) x _
 
   found_in : (side : Side) (xs ends : List ℕ) (i : ℕ) → Has xs i → RisesTo66 xs
       → (i ≡ 0) ⊎ Found (outer_at side i) (strip_triangles side xs (1 ∷ ends))
@@ -373,7 +372,7 @@ module _ (grid : List ℤ) (tol : ℕ) (kept : Side → List ℕ) (rises : (side
           → (i ≡ 0) ⊎ Found (outer_at side i) (strip_triangles side (x ∷ xs) (1 ∷ ends))
       go (inl e) = inl (equal_numbers i x e ∙ r.0)
       go (inr k) =
-          inr (found_outers (outer_at side i) (plane_side side) (outer_at side x) (inner_at side 1) (map (step_at side) (merge xs ends))
+          inr (found_outers (outer_at side i) side (outer_at side x) (inner_at side 1) (map (step_at side) (merge xs ends))
           (ap (list_any (point_eq (outer_at side i)))
           (placed_outers side (merge xs ends) ∙ ap (λ (os : List ℕ). map (outer_at side) os) (merge_outers xs ends))
           ∙ has_placed side i xs k))

@@ -5,8 +5,8 @@ use Rattle.std.specs.List.{list_any, position_or_len, range_with_len, cons_optio
 use Rattle.std.proofs.lemmas.Bool.Decides.{nat_tests}
 use Rattle.quad_split.specs.Split.{is_split}
 use Rattle.terrain_base.specs.Grid.{tolerance_of}
-use Rattle.tile_mesh.specs.declared.side.Side.{Side}
-use Rattle.tile_mesh.specs.declared.side.Side.TheVariants.{West, South, East, North}
+use Rattle.terrain_base.specs.declared.side.Side.{Side}
+use Rattle.terrain_base.specs.declared.side.Side.TheVariants.{West, South, East, North}
 use Rattle.tile_mesh.specs.declared.point.GridPoint.{GridPoint}
 use Rattle.tile_mesh.specs.Kept.{Rises, RisesTo66}
 use Rattle.tile_mesh.specs.Mesh.{vertex_at, edge_points, edge_heights, edge_numbers, kept_on, mesh_of_grid}

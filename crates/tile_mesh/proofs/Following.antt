@@ -4,7 +4,7 @@ use Rattle.std.specs.Prelude.{ℤ, pos, ◌-ℤ◌, ◌*ℤ◌, ◌≤ℤ◌, �
 use Rattle.std.specs.List.{AllByRecursion}
 use Rattle.std.proofs.lemmas.Int.{ints}
 use Rattle.mesh_plane.specs.declared.corner.Tri.{Tri}
-use Rattle.mesh_plane.specs.Plane.{doubled_area, Holds, IsCounterClockwise}
+use Rattle.mesh_plane.specs.Plane.{doubled_area, TriangleHolds, IsCounterClockwise}
 use Rattle.mesh_plane.specs.Surface.{lift_of, HasHeight, Surface}
 use Rattle.mesh_plane.specs.Triangles.{Triple}
 use Rattle.mesh_plane.proofs.ListWords.{all_from, all_map_from}
@@ -13,8 +13,8 @@ use Rattle.quad_split.specs.Fits.{Follows}
 use Rattle.quad_split.specs.Split.{is_split}
 use Rattle.quad_split.proofs.Nodes.{is_node_yes}
 use Rattle.terrain_base.specs.Grid as tile
-use Rattle.tile_mesh.specs.declared.side.Side.{Side}
-use Rattle.tile_mesh.specs.declared.side.Side.TheVariants.{West, South, East, North}
+use Rattle.terrain_base.specs.declared.side.Side.{Side}
+use Rattle.terrain_base.specs.declared.side.Side.TheVariants.{West, South, East, North}
 use Rattle.tile_mesh.specs.declared.point.GridPoint.{GridPoint}
 use Rattle.tile_mesh.specs.Mesh.{edge_heights, kept_on, mesh_from, mesh_of_grid}
 use Rattle.tile_mesh.specs.Plane.{triangles_in}
@@ -127,7 +127,7 @@ module _ (grid : List ℤ) (tol : ℕ) where
   follow_each [] f = tt
   follow_each (t ∷ ts) f = (
     (λ i j l m holds.
-        gap_of_near place (height grid) (pos (tile.line_of i)) (pos (tile.line_of j)) (pos tol) (tile.height_in grid i j) t
+        gap_of_near place (height grid) (pos (tile.line_position i)) (pos (tile.line_position j)) (pos tol) (tile.height_in grid i j) t
         (f i j l m).0 holds),
     follow_each ts (λ i j l m. (f i j l m).1),
   )
@@ -142,16 +142,16 @@ module _ (grid : List ℤ) (tol : ℕ) where
 
   -- a surface over triangles that follow the grid
   surface_near : (ts : List Tri) → All IsCounterClockwise ts → All (Follows grid tol) ts → (i j : ℕ) → i ≤ 66 → j ≤ 66
-      → (over under : ℤ) → Surface ts (pos 1) (pos (tile.line_of i)) (pos (tile.line_of j)) over under
+      → (over under : ℤ) → Surface ts (pos 1) (pos (tile.line_position i)) (pos (tile.line_position j)) over under
       → pos (unsigned_abs (over -ℤ tile.height_in grid i j *ℤ under)) ≤ℤ (pos tol *ℤ under)
   surface_near ts c f i j l m over under s = go s.shown
     where
-      go : Any (λ t. Holds (pos 1) (pos (tile.line_of i)) (pos (tile.line_of j)) t
-          × HasHeight (pos 1) (pos (tile.line_of i)) (pos (tile.line_of j)) over under t) ts
+      go : Any (λ t. TriangleHolds (pos 1) (pos (tile.line_position i)) (pos (tile.line_position j)) t
+          × HasHeight (pos 1) (pos (tile.line_position i)) (pos (tile.line_position j)) over under t) ts
           → pos (unsigned_abs (over -ℤ tile.height_in grid i j *ℤ under)) ≤ℤ (pos tol *ℤ under)
       go (k, t, lt, e, (holds, level)) =
           let h = tile.height_in grid i j in let d = pos 1 *ℤ doubled_area t in
-          let lift = lift_of t (pos 1) (pos (tile.line_of i)) (pos (tile.line_of j)) in
+          let lift = lift_of t (pos 1) (pos (tile.line_position i)) (pos (tile.line_position j)) in
           let follows : Follows grid tol t = subst (λ (u : Tri). Follows grid tol u) e (f k t lt) in
           let area : pos 0 <ℤ doubled_area t = subst (λ (u : Tri). IsCounterClockwise u) e (c k t lt) in
           let near = near_of_size (lift -ℤ h *ℤ d) (pos tol *ℤ d) (follows i j l m holds) in

@@ -3,7 +3,6 @@ use Rattle.std.proofs.Common.{◌≡◌, ℕ, refl, ap, sym, ◌∙◌, arith, B
 use Rattle.std.specs.Prelude.{ℤ, pos, ◌*ℤ◌, ◌≤ℤ◌, ◌<ℤ◌}
 use Rattle.std.proofs.lemmas.Int.{ints}
 use Rattle.mesh_plane.specs.Plane.{Point}
-use Rattle.mesh_plane.specs.Triangles as plane
 use Rattle.mesh_plane.specs.Triangles.{Triple, Step, strip}
 use Rattle.mesh_plane.specs.Fan.{Rect, InRect, InsideRect}
 use Rattle.mesh_plane.specs.Cover.{Covers}
@@ -23,8 +22,8 @@ use Rattle.quad_split.specs.Split.{is_split}
 use Rattle.quad_split.specs.Midpoints.{is_south_broken, is_west_broken, midpoints_of}
 use Rattle.quad_split.proofs.Fairness.{Inside, split_is_fair}
 use Rattle.quad_split.proofs.Nodes.{is_node_yes}
-use Rattle.tile_mesh.specs.declared.side.Side.{Side}
-use Rattle.tile_mesh.specs.declared.side.Side.TheVariants.{West, South, East, North}
+use Rattle.terrain_base.specs.declared.side.Side.{Side}
+use Rattle.terrain_base.specs.declared.side.Side.TheVariants.{West, South, East, North}
 use Rattle.tile_mesh.specs.declared.point.GridPoint.{GridPoint}
 use Rattle.tile_mesh.specs.Kept.{RisesTo66}
 use Rattle.tile_mesh.specs.Rule.{border_split, leaf_ends, inner_points, leaf_triangles, border_triangles, triangles_of}
@@ -90,10 +89,10 @@ module _ (grid : List ℤ) (s : ℤ) (h : pos 1 ≤ℤ s) where
         let a = at grid s in
         rw (i₁.list, i₂.list, i₃.list, i₄.list)
         (framed a outer_box inner_box is_inner frame_corners at_corners
-        (strip plane.South (grid_point 0 0) (grid_point 1 1) (i₁.first ∷ i₁.rest))
-        (strip plane.East (grid_point 66 0) (grid_point 65 1) (i₂.first ∷ i₂.rest))
-        (strip plane.North (grid_point 0 66) (grid_point 1 65) (i₃.first ∷ i₃.rest))
-        (strip plane.West (grid_point 0 0) (grid_point 1 1) (i₄.first ∷ i₄.rest)) qs
+        (strip South (grid_point 0 0) (grid_point 1 1) (i₁.first ∷ i₁.rest))
+        (strip East (grid_point 66 0) (grid_point 65 1) (i₂.first ∷ i₂.rest))
+        (strip North (grid_point 0 66) (grid_point 1 65) (i₃.first ∷ i₃.rest))
+        (strip West (grid_point 0 0) (grid_point 1 1) (i₄.first ∷ i₄.rest)) qs
         (south_strip a outer_box inner_box is_inner frame_corners at_corners i₁.first i₁.rest i₁.runs)
         (east_strip a outer_box inner_box is_inner frame_corners at_corners i₂.first i₂.rest i₂.runs)
         (north_strip a outer_box inner_box is_inner frame_corners at_corners i₃.first i₃.rest i₃.runs)

@@ -9,8 +9,8 @@ use Rattle.mesh_plane.proofs.ListWords.{all_from}
 use Rattle.mesh_plane.proofs.Tilings.{all_map}
 use Rattle.quad_split.specs.Split.{is_split}
 use Rattle.quad_split.proofs.Nodes.{node_x, node_y, is_node_yes, level_small}
-use Rattle.tile_mesh.specs.declared.side.Side.{Side}
-use Rattle.tile_mesh.specs.declared.side.Side.TheVariants.{West, South, East, North}
+use Rattle.terrain_base.specs.declared.side.Side.{Side}
+use Rattle.terrain_base.specs.declared.side.Side.TheVariants.{West, South, East, North}
 use Rattle.tile_mesh.specs.InnerPoints.{IsLeafCorner, AreInnerPoints}
 use Rattle.tile_mesh.specs.Kept.{Rises}
 use Rattle.tile_mesh.specs.Rule.{border_split, leaf_ends, inner_points}

@@ -14,7 +14,7 @@ use Rattle.mesh_plane.proofs.Edges.{Meets, meets_a, meets_b, meets_c}
 use Rattle.mesh_plane.proofs.Quads.{leaf_tiles, smallest_tiles, line_left, line_right}
 use Rattle.mesh_plane.proofs.Scales.{placed}
 use Rattle.quad_split.specs.Node.{is_node}
-use Rattle.quad_split.specs.Fan.{corner_of, fan_triangles}
+use Rattle.quad_split.specs.Fan.{grid_corner, fan_triangles}
 use Rattle.quad_split.specs.Fits.{Follows, Fits}
 use Rattle.quad_split.specs.Split.{is_split}
 use Rattle.quad_split.specs.Midpoints.{midpoints_of}
@@ -58,16 +58,16 @@ module _ (grid : List ℤ) (tol i j : ℕ) where
   at_one = at grid (pos 1)
 
   abbrev pub spot : Point
-  spot = point (pos (tile.line_of i)) (pos (tile.line_of j))
+  spot = point (pos (tile.line_position i)) (pos (tile.line_position j))
 
   abbrev pub ShownNear : List (Triple GridPoint) → Type 0
   ShownNear ts = IsShownNear at_one (height grid) spot (pos tol) (tile.height_in grid i j) ts
 
   pub spot_is : at_one (grid_point i j) ≡ spot
   spot_is =
-      let u : pos 1 *ℤ pos (tile.line_of i) ≡ pos (tile.line_of i) = omega (arith, ints) in
-      let v : pos 1 *ℤ pos (tile.line_of j) ≡ pos (tile.line_of j) = omega (arith, ints) in
-      ap (λ x. point x (pos 1 *ℤ pos (tile.line_of j))) u ∙ ap (λ y. point (pos (tile.line_of i)) y) v
+      let u : pos 1 *ℤ pos (tile.line_position i) ≡ pos (tile.line_position i) = omega (arith, ints) in
+      let v : pos 1 *ℤ pos (tile.line_position j) ≡ pos (tile.line_position j) = omega (arith, ints) in
+      ap (λ x. point x (pos 1 *ℤ pos (tile.line_position j))) u ∙ ap (λ y. point (pos (tile.line_position i)) y) v
 
   -- ---- a corner at the grid point
   module _ (t : Triple GridPoint) (ts : List (Triple GridPoint)) (c : IsCcw at_one t) where
@@ -118,13 +118,13 @@ module _ (grid : List ℤ) (tol i j : ℕ) where
 
     near_if : (t : Triple GridPoint) → Follows grid tol (placed place (height grid) t) → Near t
     near_if t f =
-        near_of_gap place (height grid) (pos (tile.line_of i)) (pos (tile.line_of j)) (pos tol) (tile.height_in grid i j) t
+        near_of_gap place (height grid) (pos (tile.line_position i)) (pos (tile.line_position j)) (pos tol) (tile.height_in grid i j) t
         (λ w. f i j bound bound' w)
 
     leaf_each : (k x y : ℕ) (m : Midpoints) → Fits grid tol k x y → AllByRecursion Near (leaf grid_point k x y m)
     leaf_each k x y m fits =
         let g = leaf_ring grid_point k x y m in let c = grid_point (line_of k (2 * x + 1)) (line_of k (2 * y + 1)) in
-        let q = all_to (λ t. Follows grid tol (tri_of t)) (fan_triangles (corner_of grid) k x y) fits in
+        let q = all_to (λ t. Follows grid tol (tri_of t)) (fan_triangles (grid_corner grid) k x y) fits in
         let s = side_each Near c g.south_west (grid_point (line_of k (2 * x + 1)) (line_of (suc k) y)) g.south_east m.south
         (near_if _ q.0) (near_if _ q.1.0) (near_if _ q.1.1.0) in
         let e = side_each Near c g.south_east (grid_point (line_of (suc k) (x + 1)) (line_of k (2 * y + 1))) g.north_east m.east
@@ -138,13 +138,13 @@ module _ (grid : List ℤ) (tol i j : ℕ) where
         (all_append Near (fan c g.south_east (east_of g)) _ e
         (all_append Near (fan c g.north_east (north_of g)) (fan c g.north_west (west_of g)) n w)))
 
-    lines_in : (a b : ℕ) → a ≤ b → tile.line_of a ≤ tile.line_of b
+    lines_in : (a b : ℕ) → a ≤ b → tile.line_position a ≤ tile.line_position b
     lines_in a b l = omega (arith, l)
 
-    from_line : (a b : ℕ) → a ≤ b → line grid (pos 1) a ≤ℤ pos (tile.line_of b)
+    from_line : (a b : ℕ) → a ≤ b → line grid (pos 1) a ≤ℤ pos (tile.line_position b)
     from_line a b l = omega (arith, ints, lines_in a b l)
 
-    to_line : (a b : ℕ) → a ≤ b → pos (tile.line_of a) ≤ℤ line grid (pos 1) b
+    to_line : (a b : ℕ) → a ≤ b → pos (tile.line_position a) ≤ℤ line grid (pos 1) b
     to_line a b l = omega (arith, ints, lines_in a b l)
 
     leaf_near : (k x y : ℕ) (m : Midpoints) → is_node (suc k) x y ≡ true → is_split grid tol (suc k) x y ≡ false

@@ -4,11 +4,11 @@ use Rattle.mesh_plane.specs.Triangles.{Triple, fan}
 use Rattle.mesh_plane.specs.Fan.{Ring, round, south_of, east_of, north_of, west_of}
 use Rattle.mesh_plane.specs.Quadtree.{line_of, halves, midpoint, Midpoints, leaves}
 use Rattle.terrain_base.specs.declared.indexes.Indexes.{Indexes}
-use Rattle.tile_mesh.specs.declared.leaves.Square.{Square}
+use Rattle.tile_mesh.specs.declared.leaves.PlacedNode.{PlacedNode}
 use Rattle.tile_mesh.specs.declared.point.GridPoint.{GridPoint}
 use Rattle.tile_mesh.specs.Numbers.{Adds}
 use Rattle.tile_mesh.specs.Sides.{grid_point}
-use Rattle.tile_mesh.specs.Squares.{IsSquare, IsQuarter, leaf_at}
+use Rattle.tile_mesh.specs.PlacedNodes.{IsPlacedNode, IsQuarter, leaf_at}
 use Rattle.tile_mesh.proofs.Steps.{adds_append}
 
 -- ---- a fan by the sides of its ring
@@ -76,8 +76,8 @@ whole p m (suc k) x y i j h e a b =
     (sym a) (half_side k x i a) (whole_side k x i a) (sym b) (half_side k y j b) (whole_side k y j b))
 
 -- the whole leaf of a node
-pub leaf_is : (p : ℕ → ℕ → ℕ → Bool) (m : ℕ → ℕ → ℕ → Midpoints) (s : Square) → (s.level ≡ 0 → ⊥)
-    → p s.level s.x s.y ≡ false → IsSquare s
+pub leaf_is : (p : ℕ → ℕ → ℕ → Bool) (m : ℕ → ℕ → ℕ → Midpoints) (s : PlacedNode) → (s.level ≡ 0 → ⊥)
+    → p s.level s.x s.y ≡ false → IsPlacedNode s
     → leaves grid_point p m s.level s.x s.y ≡ leaf_at (s.side / 2) s.i s.j (m s.level s.x s.y)
 leaf_is p m s h e q =
     whole p m s.level s.x s.y s.i s.j h e q.west q.south
@@ -94,7 +94,7 @@ smallest_by p m zero x y i j h a b =
     rw (c, d, a, b)
 smallest_by p m (suc k) x y i j h a b = absurd (omega (arith, h))
 
-pub smallest_is : (p : ℕ → ℕ → ℕ → Bool) (m : ℕ → ℕ → ℕ → Midpoints) (s : Square) → s.level ≡ 0 → IsSquare s
+pub smallest_is : (p : ℕ → ℕ → ℕ → Bool) (m : ℕ → ℕ → ℕ → Midpoints) (s : PlacedNode) → s.level ≡ 0 → IsPlacedNode s
     → halves (grid_point s.i s.j) (grid_point (s.i + 1) s.j) (grid_point (s.i + 1) (s.j + 1)) (grid_point s.i (s.j + 1))
     ≡ leaves grid_point p m s.level s.x s.y
 smallest_is p m s h q = smallest_by p m s.level s.x s.y s.i s.j h q.west q.south
@@ -107,11 +107,11 @@ leaves_split : (p : ℕ → ℕ → ℕ → Bool) (m : ℕ → ℕ → ℕ → M
 leaves_split p m zero x y h e = absurd (h refl)
 leaves_split p m (suc k) x y h e = let d : suc k - 1 ≡ k = omega arith in rw (e, d, add-zero, add-zero)
 
-quarter_is : (p : ℕ → ℕ → ℕ → Bool) (m : ℕ → ℕ → ℕ → Midpoints) (s : Square) (a b : ℕ) (q : Square) → IsQuarter s a b q
+quarter_is : (p : ℕ → ℕ → ℕ → Bool) (m : ℕ → ℕ → ℕ → Midpoints) (s : PlacedNode) (a b : ℕ) (q : PlacedNode) → IsQuarter s a b q
     → leaves grid_point p m q.level q.x q.y ≡ leaves grid_point p m (s.level - 1) (2 * s.x + a) (2 * s.y + b)
 quarter_is p m s a b q h = rw (h.level, h.x, h.y)
 
-pub split_adds : (p : ℕ → ℕ → ℕ → Bool) (m : ℕ → ℕ → ℕ → Midpoints) (s q₀ q₁ q₂ q₃ : Square) → (s.level ≡ 0 → ⊥)
+pub split_adds : (p : ℕ → ℕ → ℕ → Bool) (m : ℕ → ℕ → ℕ → Midpoints) (s q₀ q₁ q₂ q₃ : PlacedNode) → (s.level ≡ 0 → ⊥)
     → p s.level s.x s.y ≡ true
     → IsQuarter s 0 0 q₀ → IsQuarter s 1 0 q₁ → IsQuarter s 0 1 q₂ → IsQuarter s 1 1 q₃
     → (k₀ k₁ k₂ k₃ k₄ : List GridPoint) (i₀ i₁ i₂ i₃ i₄ : List Indexes)

@@ -2,21 +2,20 @@
 use Rattle.std.proofs.Common.{◌≡◌, ℕ, zero, suc, ◌+◌, ◌*◌, ◌≤◌, arith, Bool, true, false, List, [], ◌∷◌, ◌++◌, map, length, nat_le, refl}
 use Rattle.std.specs.Prelude.{ℤ, if◌then◌else◌}
 use Rattle.std.proofs.lemmas.List.{length-map}
-use Rattle.mesh_plane.specs.Triangles as plane
 use Rattle.mesh_plane.specs.Triangles.{Triple, Step, Outer, Inner, strip, fan}
 use Rattle.mesh_plane.specs.Quadtree.{Midpoints, line_of, midpoint, leaf, leaf_ring, leaves}
 use Rattle.mesh_plane.specs.Fan.{round}
 use Rattle.quad_split.specs.Midpoints.{midpoints_of}
 use Rattle.quad_split.specs.Split.{is_split}
 use Rattle.terrain_base.specs.Grid.{tolerance_of}
-use Rattle.tile_mesh.specs.declared.side.Side.{Side}
-use Rattle.tile_mesh.specs.declared.side.Side.TheVariants.{West, South, East, North}
+use Rattle.terrain_base.specs.declared.side.Side.{Side}
+use Rattle.terrain_base.specs.declared.side.Side.TheVariants.{West, South, East, North}
 use Rattle.tile_mesh.specs.Kept.{Rises, RisesTo66}
 use Rattle.tile_mesh.specs.Merge.{merge, outer_after}
 use Rattle.tile_mesh.specs.Mesh.{kept_on, edge_heights, mesh_of_grid}
 use Rattle.tile_mesh.specs.Numbers.{first_uses, corners, numbered}
 use Rattle.tile_mesh.specs.Rule.{border_split, border_triangles, inner_points, leaf_ends, leaf_triangles, strip_triangles, triangles_of}
-use Rattle.tile_mesh.specs.Sides.{plane_side, grid_point, outer_at, inner_at, step_at}
+use Rattle.tile_mesh.specs.Sides.{grid_point, outer_at, inner_at, step_at}
 use Rattle.tile_mesh.proofs.KeptLists.{kept_to_66}
 
 joined : {A : Type 0} (xs ys : List A) → length (xs ++ ys) ≡ length xs + length ys
@@ -35,7 +34,7 @@ merged : (xs ys : List ℕ) → length (merge xs ys) ≡ length xs + length ys
 merged [] ys = omega (arith, length-map ys (λ (y : ℕ). Inner y))
 merged (x ∷ xs) ys = omega (arith, taken_after x (length xs) (merge xs) (merged xs) ys)
 
-stripped : {A : Type 0} (side : plane.Side) (o n : A) (steps : List (Step A)) → length (strip side o n steps) ≡ length steps
+stripped : {A : Type 0} (side : Side) (o n : A) (steps : List (Step A)) → length (strip side o n steps) ≡ length steps
 stripped side o n [] = refl
 stripped side o n (Outer x ∷ steps) = omega (arith, stripped side x n steps)
 stripped side o n (Inner x ∷ steps) = omega (arith, stripped side o x steps)
@@ -46,7 +45,7 @@ few_in_strip side (o ∷ outer) [] a b h k = omega arith
 few_in_strip side (o ∷ outer) (n ∷ inner) a b h k =
     omega (
       arith,
-      stripped (plane_side side) (outer_at side o) (inner_at side n) (map (step_at side) (merge outer inner)),
+      stripped side (outer_at side o) (inner_at side n) (map (step_at side) (merge outer inner)),
       length-map (merge outer inner) (step_at side),
       merged outer inner,
     )

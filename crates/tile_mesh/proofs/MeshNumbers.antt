@@ -14,8 +14,8 @@ use Rattle.quad_split.specs.Split.{is_split}
 use Rattle.terrain_base.specs.FirstUse as indexes
 use Rattle.terrain_base.specs.FirstUse.{IsByFirstUse}
 use Rattle.terrain_base.specs.Grid.{tolerance_of}
-use Rattle.tile_mesh.specs.declared.side.Side.{Side}
-use Rattle.tile_mesh.specs.declared.side.Side.TheVariants.{West, South, East, North}
+use Rattle.terrain_base.specs.declared.side.Side.{Side}
+use Rattle.terrain_base.specs.declared.side.Side.TheVariants.{West, South, East, North}
 use Rattle.tile_mesh.specs.declared.point.GridPoint.{GridPoint}
 use Rattle.tile_mesh.specs.declared.point.MeshPoint.{MeshPoint}
 use Rattle.tile_mesh.specs.Kept.{RisesTo66}

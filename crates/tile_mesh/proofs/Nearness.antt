@@ -6,7 +6,7 @@ use Rattle.std.proofs.lemmas.Int.{ints}
 use Rattle.polynomial.proofs.Expressions.{var, num, add, sub, mul}
 use Rattle.polynomial.proofs.NormalForm.{by_ring}
 use Rattle.polynomial.proofs.Signs.{times_nonneg, factor_nonneg, weaken}
-use Rattle.mesh_plane.specs.Plane.{Point, point, doubled_area, side_of, Holds}
+use Rattle.mesh_plane.specs.Plane.{Point, point, doubled_area, side_of, TriangleHolds}
 use Rattle.mesh_plane.specs.Surface.{lift_of, gap_over, gap_under}
 use Rattle.mesh_plane.specs.Triangles.{Triple}
 use Rattle.mesh_plane.proofs.Turns.{turn, side_scaled}
@@ -129,7 +129,7 @@ module _ {A : Type 0} (place : A → Point) (z : A → ℤ) (x y t h : ℤ) (u :
       ∙ by_ring (mul (mul (num 1) (num 1)) (var 0)) (mul (num 1) (var 0)) (doubled_area (placed place z u) ∷ []) refl
 
   -- what is near as a placed triangle
-  pub gap_of_near : NearAt (scaled place z (pos 1)) z (point x y) t h u → Holds (pos 1) x y (placed place z u)
+  pub gap_of_near : NearAt (scaled place z (pos 1)) z (point x y) t h u → TriangleHolds (pos 1) x y (placed place z u)
       → gap_over (placed place z u) (pos 1) x y h ≤ℤ (t *ℤ gap_under (placed place z u) (pos 1))
   gap_of_near n i =
       let k = n (holds_in place z (pos 1) x y one u i) in
@@ -138,7 +138,7 @@ module _ {A : Type 0} (place : A → Point) (z : A → ℤ) (x y t h : ℤ) (u :
       (omega (arith, ints, k.above, lift_at_one, ap (λ i. t *ℤ i) area_at_one, ap (λ i. h *ℤ i) area_at_one))
       (omega (arith, ints, k.below, lift_at_one, ap (λ i. t *ℤ i) area_at_one, ap (λ i. h *ℤ i) area_at_one))
 
-  pub near_of_gap : (Holds (pos 1) x y (placed place z u)
+  pub near_of_gap : (TriangleHolds (pos 1) x y (placed place z u)
       → gap_over (placed place z u) (pos 1) x y h ≤ℤ (t *ℤ gap_under (placed place z u) (pos 1)))
       → NearAt (scaled place z (pos 1)) z (point x y) t h u
   near_of_gap f w =

@@ -8,16 +8,16 @@ use Rattle.mesh_plane.specs.Strip.{along, across}
 use Rattle.mesh_plane.specs.Triangles.{Step, Outer, Inner, outer_end, inner_end}
 use Rattle.mesh_plane.proofs.StripHeights.{inners}
 use Rattle.mesh_plane.proofs.Scales.{scaled, grow_lt}
-use Rattle.terrain_base.specs.Grid.{line_of, height_in}
-use Rattle.tile_mesh.specs.declared.side.Side.{Side}
-use Rattle.tile_mesh.specs.declared.side.Side.TheVariants.{West, South, East, North}
+use Rattle.terrain_base.specs.Grid.{line_position, height_in}
+use Rattle.terrain_base.specs.declared.side.Side.{Side}
+use Rattle.terrain_base.specs.declared.side.Side.TheVariants.{West, South, East, North}
 use Rattle.tile_mesh.specs.declared.point.GridPoint.{GridPoint}
-use Rattle.tile_mesh.specs.Sides.{plane_side, outer_at, inner_at, step_at}
+use Rattle.tile_mesh.specs.Sides.{outer_at, inner_at, step_at}
 use Rattle.tile_mesh.proofs.Merges.{Ascend}
 
 -- where a grid point lies on the tile
 abbrev pub place : GridPoint → Point
-place p = point (pos (line_of p.i)) (pos (line_of p.j))
+place p = point (pos (line_position p.i)) (pos (line_position p.j))
 
 abbrev pub height : List ℤ → GridPoint → ℤ
 height grid p = height_in grid p.i p.j
@@ -31,10 +31,10 @@ module _ (grid : List ℤ) (s : ℤ) where
   at = scaled place (height grid) s
 
   abbrev pub line : ℕ → ℤ
-  line i = s *ℤ pos (line_of i)
+  line i = s *ℤ pos (line_position i)
 
   pub line_up : pos 1 ≤ℤ s → (i j : ℕ) → i < j → line i <ℤ line j
-  line_up h i j l = grow_lt s (pos (line_of i)) (pos (line_of j)) h (omega (arith, ints, lines_apart i j l))
+  line_up h i j l = grow_lt s (pos (line_position i)) (pos (line_position j)) h (omega (arith, ints, lines_apart i j l))
 
   -- the lines of a strip
   abbrev pub outer_line : Side → ℤ
@@ -49,25 +49,25 @@ module _ (grid : List ℤ) (s : ℤ) where
   inner_line East = line 65
   inner_line North = line 65
 
-  pub outer_along : (side : Side) (i : ℕ) → along (plane_side side) (at (outer_at side i)) ≡ line i
+  pub outer_along : (side : Side) (i : ℕ) → along side (at (outer_at side i)) ≡ line i
   outer_along West i = refl
   outer_along South i = refl
   outer_along East i = refl
   outer_along North i = refl
 
-  pub inner_along : (side : Side) (i : ℕ) → along (plane_side side) (at (inner_at side i)) ≡ line i
+  pub inner_along : (side : Side) (i : ℕ) → along side (at (inner_at side i)) ≡ line i
   inner_along West i = refl
   inner_along South i = refl
   inner_along East i = refl
   inner_along North i = refl
 
-  pub outer_across : (side : Side) (i : ℕ) → across (plane_side side) (at (outer_at side i)) ≡ outer_line side
+  pub outer_across : (side : Side) (i : ℕ) → across side (at (outer_at side i)) ≡ outer_line side
   outer_across West i = refl
   outer_across South i = refl
   outer_across East i = refl
   outer_across North i = refl
 
-  pub inner_across : (side : Side) (i : ℕ) → across (plane_side side) (at (inner_at side i)) ≡ inner_line side
+  pub inner_across : (side : Side) (i : ℕ) → across side (at (inner_at side i)) ≡ inner_line side
   inner_across West i = refl
   inner_across South i = refl
   inner_across East i = refl
@@ -77,7 +77,7 @@ module _ (grid : List ℤ) (s : ℤ) where
   along_less x y i j h e f l = omega (arith, ints, e, f, line_up h i j l)
 
   pub placed_ascend : pos 1 ≤ℤ s → (side : Side) (o n : ℕ) (steps : List (Step ℕ)) → Ascend o n steps
-      → strips.Ascend at (plane_side side) (outer_line side) (inner_line side) (outer_at side o) (inner_at side n)
+      → strips.Ascend at side (outer_line side) (inner_line side) (outer_at side o) (inner_at side n)
       (map (step_at side) steps)
   placed_ascend h side o n [] a = tt
   placed_ascend h side o n (Outer x ∷ steps) a = (

@@ -3,7 +3,7 @@ use Rattle.std.specs.Prelude.{◌≡◌, ◌↔◌, ◌⊎◌, ℕ, suc, ◌+◌
 use Rattle.mesh_plane.specs.Quadtree.{line_of}
 use Rattle.quad_split.specs.Node.{is_node}
 use Rattle.quad_split.specs.Split.{is_split}
-use Rattle.tile_mesh.specs.declared.side.Side.{Side}
+use Rattle.terrain_base.specs.declared.side.Side.{Side}
 use Rattle.tile_mesh.specs.declared.point.GridPoint.{GridPoint}
 use Rattle.tile_mesh.specs.Rule.{inner_points}
 use Rattle.tile_mesh.specs.Sides.{inner_at}

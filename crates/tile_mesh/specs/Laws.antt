@@ -2,7 +2,7 @@
 use Rattle.std.specs.Prelude.{◌≡◌, ℕ, ℤ, List}
 use Rattle.terrain_base.specs.Grid.{tolerance_of}
 use Rattle.mesh_plane.specs.Cover.{Covers}
-use Rattle.tile_mesh.specs.declared.side.Side.{Side}
+use Rattle.terrain_base.specs.declared.side.Side.{Side}
 use Rattle.tile_mesh.specs.Mesh.{mesh_of_grid}
 use Rattle.tile_mesh.specs.Plane.{edge_vertices, kept_vertices, triangles_in}
 use Rattle.tile_mesh.specs.Tolerance.{KeepsTolerance}

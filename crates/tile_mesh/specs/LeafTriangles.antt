@@ -28,5 +28,5 @@ pub record AreLeaves (grid : List ℤ) (tol : ℕ) : Type 0 where
   pub triangles : leaf_triangles (is_split grid tol)
       ≡ flat_map (λ n. triangles_at (is_split grid tol) n.level n.x n.y) nodes
 
-abbrev pub LeafLaw : Type 0
-LeafLaw = (grid : List ℤ) (tol : ℕ) → AreLeaves grid tol
+abbrev pub LeavesLaw : Type 0
+LeavesLaw = (grid : List ℤ) (tol : ℕ) → AreLeaves grid tol

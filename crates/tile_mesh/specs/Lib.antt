@@ -12,6 +12,6 @@ pub mod MeshNumbers
 pub mod Merging
 pub mod Numbering
 pub mod Plane
-pub mod Squares
+pub mod PlacedNodes
 pub mod Tolerance
 pub mod Seams

@@ -6,8 +6,8 @@ use Rattle.terrain_base.specs.declared.indexes.Indexes.{Indexes}
 use Rattle.mesh_plane.specs.Triangles.{Triple}
 use Rattle.edge_decimate.specs.KeptPoints.{kept_points}
 use Rattle.quad_split.specs.Split.{is_split}
-use Rattle.tile_mesh.specs.declared.side.Side.{Side}
-use Rattle.tile_mesh.specs.declared.side.Side.TheVariants.{West, South, East, North}
+use Rattle.terrain_base.specs.declared.side.Side.{Side}
+use Rattle.terrain_base.specs.declared.side.Side.TheVariants.{West, South, East, North}
 use Rattle.tile_mesh.specs.declared.point.GridPoint.{GridPoint}
 use Rattle.tile_mesh.specs.declared.point.MeshPoint.{MeshPoint}
 use Rattle.tile_mesh.specs.Sides.{outer_at}

@@ -3,7 +3,7 @@ use Rattle.std.specs.Prelude.{◌≡◌, ℕ, ◌<◌, ◌≤◌, ℤ, List, len
 use Rattle.terrain_base.specs.Grid.{height_in}
 use Rattle.terrain_base.specs.Height.{IsHeight}
 use Rattle.terrain_base.specs.FirstUse.{IsByFirstUse, corners}
-use Rattle.tile_mesh.specs.declared.side.Side.{Side}
+use Rattle.terrain_base.specs.declared.side.Side.{Side}
 use Rattle.tile_mesh.specs.declared.point.MeshPoint.{MeshPoint}
 use Rattle.tile_mesh.specs.Mesh.{Mesh, edge_of, mesh_of_grid, IsMeshAt}
 use Rattle.tile_mesh.specs.Numbering.{ArePoints}

@@ -2,16 +2,16 @@
 use Rattle.std.specs.Prelude.{ℕ, ℤ, pos, List, map, slice_index_or}
 use Rattle.mesh_plane.specs.declared.corner.Corner.{Corner}
 use Rattle.mesh_plane.specs.declared.corner.Tri.{Tri}
-use Rattle.terrain_base.specs.Grid.{line_of}
+use Rattle.terrain_base.specs.Grid.{line_position}
 use Rattle.terrain_base.specs.declared.indexes.Indexes.{Indexes}
-use Rattle.tile_mesh.specs.declared.side.Side.{Side}
+use Rattle.terrain_base.specs.declared.side.Side.{Side}
 use Rattle.tile_mesh.specs.declared.point.MeshPoint.{MeshPoint}
 use Rattle.tile_mesh.specs.Mesh.{Mesh, edge_of, vertex_at, kept_on}
 use Rattle.tile_mesh.specs.Sides.{outer_at}
 
 -- a vertex in the plane: u and v in tile units, the height in metres
-abbrev pub corner_of : MeshPoint → Corner
-corner_of p = record { u = pos (line_of p.i); v = pos (line_of p.j); h = p.metres }
+abbrev pub point_corner : MeshPoint → Corner
+point_corner p = record { u = pos (line_position p.i); v = pos (line_position p.j); h = p.metres }
 
 -- the vertex of this number, where it is below their count
 abbrev pub vertex : List MeshPoint → ℕ → MeshPoint
@@ -20,9 +20,9 @@ vertex points n = slice_index_or points n (record { i = 0; j = 0; metres = pos 0
 -- the triangle of three vertices
 abbrev pub triangle_of : List MeshPoint → Indexes → Tri
 triangle_of points t = record {
-  a = corner_of (vertex points t.a);
-  b = corner_of (vertex points t.b);
-  c = corner_of (vertex points t.c);
+  a = point_corner (vertex points t.a);
+  b = point_corner (vertex points t.b);
+  c = point_corner (vertex points t.c);
 }
 
 -- the triangles of a mesh

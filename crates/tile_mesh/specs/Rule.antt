@@ -3,10 +3,10 @@ use Rattle.std.specs.Prelude.{ℕ, zero, suc, ◌+◌, ◌-◌, ◌*◌, ◌^◌
 use Rattle.mesh_plane.specs.Triangles.{Triple, strip}
 use Rattle.mesh_plane.specs.Quadtree.{line_of, leaves}
 use Rattle.quad_split.specs.Midpoints.{midpoints_of}
-use Rattle.tile_mesh.specs.declared.side.Side.{Side}
-use Rattle.tile_mesh.specs.declared.side.Side.TheVariants.{West, South, East, North}
+use Rattle.terrain_base.specs.declared.side.Side.{Side}
+use Rattle.terrain_base.specs.declared.side.Side.TheVariants.{West, South, East, North}
 use Rattle.tile_mesh.specs.declared.point.GridPoint.{GridPoint}
-use Rattle.tile_mesh.specs.Sides.{plane_side, grid_point, outer_at, inner_at, step_at}
+use Rattle.tile_mesh.specs.Sides.{grid_point, outer_at, inner_at, step_at}
 use Rattle.tile_mesh.specs.Merge.{merge}
 
 -- the strip of a side, of which the outer and the inner points have these indexes, from the first point of
@@ -15,7 +15,7 @@ abbrev pub strip_triangles : Side → List ℕ → List ℕ → List (Triple Gri
 strip_triangles side [] inner = []
 strip_triangles side (o ∷ outer) [] = []
 strip_triangles side (o ∷ outer) (n ∷ inner) =
-    strip (plane_side side) (outer_at side o) (inner_at side n) (map (step_at side) (merge outer inner))
+    strip side (outer_at side o) (inner_at side n) (map (step_at side) (merge outer inner))
 
 -- whether the node of level k that lies at this place along a side of the quadtree's square is split
 abbrev pub border_split : (ℕ → ℕ → ℕ → Bool) → Side → ℕ → ℕ → Bool

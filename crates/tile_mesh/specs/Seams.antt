@@ -1,7 +1,7 @@
 -- The edges of the meshes of two tiles side by side.
 use Rattle.std.specs.Prelude.{◌≡◌, ℕ, ℤ, List, map}
-use Rattle.tile_mesh.specs.declared.side.Side.{Side}
-use Rattle.tile_mesh.specs.declared.side.Side.TheVariants.{West, South, East, North}
+use Rattle.terrain_base.specs.declared.side.Side.{Side}
+use Rattle.terrain_base.specs.declared.side.Side.TheVariants.{West, South, East, North}
 use Rattle.tile_mesh.specs.declared.point.MeshPoint.{MeshPoint}
 use Rattle.tile_mesh.specs.Mesh.{Mesh, edge_heights, mesh_of_grid}
 use Rattle.tile_mesh.specs.Plane.{edge_vertices}

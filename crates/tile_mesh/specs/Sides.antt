@@ -2,16 +2,9 @@
 use Rattle.std.specs.Prelude.{ℕ}
 use Rattle.mesh_plane.specs.Triangles as plane
 use Rattle.mesh_plane.specs.Triangles.{Step, Outer, Inner}
-use Rattle.tile_mesh.specs.declared.side.Side.{Side}
-use Rattle.tile_mesh.specs.declared.side.Side.TheVariants.{West, South, East, North}
+use Rattle.terrain_base.specs.declared.side.Side.{Side}
+use Rattle.terrain_base.specs.declared.side.Side.TheVariants.{West, South, East, North}
 use Rattle.tile_mesh.specs.declared.point.GridPoint.{GridPoint}
-
--- the side of a square that it is
-abbrev pub plane_side : Side → plane.Side
-plane_side West = plane.West
-plane_side South = plane.South
-plane_side East = plane.East
-plane_side North = plane.North
 
 abbrev pub grid_point : ℕ → ℕ → GridPoint
 grid_point i j = record { i = i; j = j }

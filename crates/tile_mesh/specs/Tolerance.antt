@@ -2,7 +2,7 @@
 use Rattle.std.specs.Prelude.{ℕ, ◌≤◌, ℤ, pos, ◌-ℤ◌, ◌*ℤ◌, ◌≤ℤ◌, unsigned_abs, List, All}
 use Rattle.mesh_plane.specs.Surface.{Surface}
 use Rattle.quad_split.specs.Fits.{Follows}
-use Rattle.terrain_base.specs.Grid.{line_of, height_in}
+use Rattle.terrain_base.specs.Grid.{line_position, height_in}
 use Rattle.tile_mesh.specs.Mesh.{Mesh}
 use Rattle.tile_mesh.specs.Plane.{triangles_in}
 
@@ -11,5 +11,5 @@ use Rattle.tile_mesh.specs.Plane.{triangles_in}
 pub record KeepsTolerance (grid : List ℤ) (tol : ℕ) (mesh : Mesh) : Type 0 where
   pub planes : All (Follows grid tol) (triangles_in mesh)
   pub surface : (i j : ℕ) → i ≤ 66 → j ≤ 66 → (over under : ℤ)
-      → Surface (triangles_in mesh) (pos 1) (pos (line_of i)) (pos (line_of j)) over under
+      → Surface (triangles_in mesh) (pos 1) (pos (line_position i)) (pos (line_position j)) over under
       → pos (unsigned_abs (over -ℤ height_in grid i j *ℤ under)) ≤ℤ (pos tol *ℤ under)

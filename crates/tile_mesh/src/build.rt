@@ -14,10 +14,9 @@ use crate::builder::Builder;
 use crate::inner::inner_indexes;
 use crate::kept::kept_indexes;
 use crate::mesh::TileMesh;
-use crate::side::Side;
 use quad_split::{Splits, split_map};
 use std::alloc::Global;
-use terrain_base::{Grid, NoMemory, tolerance};
+use terrain_base::{Grid, NoMemory, Side, tolerance};
 
 impl Builder {
     /// Adds the strip of a side.

@@ -4,10 +4,9 @@ ghost use Rattle.std.specs.List.{AllByRecursion};
 ghost use Rattle.quad_split.specs.SplitMap.{bit_at};
 ghost use Rattle.tile_mesh.specs.Rule.{border_split, leaf_ends, inner_points};
 
-use crate::side::Side;
 use quad_split::Splits;
 use std::alloc::Global;
-use terrain_base::NoMemory;
+use terrain_base::{NoMemory, Side};
 
 /// Whether the node of a level at this place along a side is split. Nodes of the level have this side.
 fn is_border_split(splits: &Splits, side: Side, level: u8, length: u8, place: u8) -> bool

@@ -4,10 +4,10 @@ ghost use Rattle.std.specs.List.{AllByRecursion};
 ghost use Rattle.tile_mesh.specs.Kept.{RisesTo66};
 ghost use Rattle.tile_mesh.specs.Mesh.{edge_heights, kept_on};
 
-use crate::side::Side;
+use crate::side::outer_point;
 use edge_decimate::{KeptLine, kept};
 use std::alloc::Global;
-use terrain_base::{Grid, NoMemory};
+use terrain_base::{Grid, NoMemory, Side};
 
 /// The heights along an edge.
 fn heights_along(grid: &Grid, side: Side) -> [i16; 67]
@@ -15,7 +15,7 @@ fn heights_along(grid: &Grid, side: Side) -> [i16; 67]
 {
     let mut heights = [0; 67];
     for index in 0..67u8 {
-        let point = side.outer(index);
+        let point = outer_point(side, index);
         heights[index as usize] = grid.get(point.i, point.j);
     }
     heights

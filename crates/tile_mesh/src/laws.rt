@@ -3,7 +3,7 @@
 
 ghost use Rattle.tile_mesh.specs.InnerPoints.{InnerLaw};
 ghost use Rattle.tile_mesh.specs.Laws.{CoverLaw, EdgeLaw, ToleranceLaw};
-ghost use Rattle.tile_mesh.specs.LeafTriangles.{LeafLaw};
+ghost use Rattle.tile_mesh.specs.LeafTriangles.{LeavesLaw};
 ghost use Rattle.tile_mesh.specs.Merging.{MergeLaw};
 ghost use Rattle.tile_mesh.specs.MeshNumbers.{NumberedLaw, FewTrianglesLaw, VertexHeightLaw, HeightRangeLaw};
 ghost use Rattle.tile_mesh.specs.Numbering.{NumberingLaw};
@@ -54,7 +54,7 @@ pub fn inner_line()
 /// The triangles of the quadtree are those of its leaves, one leaf after the other, and no others: each node
 /// that is not split, and is the root or has a split parent, comes once.
 pub fn leaf_triangles()
-    ensures { LeafLaw }
+    ensures { LeavesLaw }
 {}
 
 /// A mesh has at most 8712 triangles.

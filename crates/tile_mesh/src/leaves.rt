@@ -6,7 +6,7 @@ ghost use Rattle.tile_mesh.specs.Growth.{Grows};
 ghost use Rattle.tile_mesh.specs.Numbers.{IsOnGrid};
 ghost use Rattle.tile_mesh.specs.Sides.{grid_point};
 ghost use Rattle.tile_mesh.specs.Rule.{leaf_triangles};
-ghost use Rattle.tile_mesh.specs.Squares.{IsSquare, IsQuarter, as_midpoints, leaf_at};
+ghost use Rattle.tile_mesh.specs.PlacedNodes.{IsPlacedNode, IsQuarter, as_midpoints, leaf_at};
 ghost use Rattle.quad_split.specs.Midpoints.{midpoints_of};
 ghost use Rattle.quad_split.specs.SplitMap.{bit_at};
 
@@ -18,7 +18,7 @@ use terrain_base::NoMemory;
 /// A node of the quadtree: its level, its column and row among the nodes of this level, its south-west
 /// corner and its side.
 #[derive(Clone, Copy, Debug, PartialEq, Eq)]
-pub(crate) struct Square {
+pub(crate) struct PlacedNode {
     pub(crate) level: u8,
     pub(crate) x: u8,
     pub(crate) y: u8,
@@ -37,27 +37,27 @@ pub(crate) struct Midpoints {
 }
 
 /// A child of a node.
-fn quarter(square: Square, east: u8, north: u8) -> Square
-    requires square { IsSquare square }
-    requires large { 1 ≤ square.level }
+fn quarter(node: PlacedNode, east: u8, north: u8) -> PlacedNode
+    requires node { IsPlacedNode node }
+    requires large { 1 ≤ node.level }
     requires east { east ≤ 1 }
     requires north { north ≤ 1 }
-    ensures { IsQuarter square east north result }
+    ensures { IsQuarter node east north result }
 {
-    let side = square.side / 2;
-    Square {
-        level: square.level - 1,
-        x: 2 * square.x + east,
-        y: 2 * square.y + north,
-        i: square.i + east * side,
-        j: square.j + north * side,
+    let side = node.side / 2;
+    PlacedNode {
+        level: node.level - 1,
+        x: 2 * node.x + east,
+        y: 2 * node.y + north,
+        i: node.i + east * side,
+        j: node.j + north * side,
         side,
     }
 }
 
 /// The sides of a leaf beside which a node of the same side is split.
-fn midpoints_at(splits: &Splits, leaf: Square) -> Midpoints
-    requires leaf { IsSquare leaf }
+fn midpoints_at(splits: &Splits, leaf: PlacedNode) -> Midpoints
+    requires leaf { IsPlacedNode leaf }
     ensures { as_midpoints result ≡ midpoints_of (bit_at splits.now) leaf.level leaf.x leaf.y }
 {
     Midpoints {
@@ -129,8 +129,8 @@ impl Builder {
     }
 
     /// Adds the triangles of the leaves of a node.
-    fn leaves(&mut self, splits: &Splits, node: Square) -> Result<(), NoMemory>
-        requires node { IsSquare node }
+    fn leaves(&mut self, splits: &Splits, node: PlacedNode) -> Result<(), NoMemory>
+        requires node { IsPlacedNode node }
         ensures { let split = bit_at splits.now in
             let ts = leaves grid_point split (midpoints_of split) node.level node.x node.y in
             OnOk result (Grows ts self.old self.new) }
@@ -152,7 +152,7 @@ impl Builder {
     pub(crate) fn all_leaves(&mut self, splits: &Splits) -> Result<(), NoMemory>
         ensures { OnOk result (Grows (leaf_triangles (bit_at splits.now)) self.old self.new) }
     {
-        let root = Square {
+        let root = PlacedNode {
             level: 6,
             x: 0,
             y: 0,

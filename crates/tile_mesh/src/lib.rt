@@ -16,7 +16,6 @@ mod vertices;
 pub use build::mesh_of;
 pub use mesh::TileMesh;
 pub use point::MeshPoint;
-pub use side::Side;
 
 #[cfg(test)]
 mod tests;

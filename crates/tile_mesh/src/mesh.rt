@@ -3,9 +3,8 @@ ghost use Rattle.std.specs.Prelude.{◌≡◌};
 ghost use Rattle.tile_mesh.specs.Mesh.{edge_of};
 
 use crate::point::MeshPoint;
-use crate::side::Side;
 use std::marker::Model;
-use terrain_base::Indexes;
+use terrain_base::{Indexes, Side};
 
 /// The mesh of a tile: its vertices, its triangles by their vertices' numbers, and the numbers of the
 /// vertices on each edge.

@@ -4,14 +4,14 @@ ghost use Rattle.std.specs.List.{AllByRecursion};
 ghost use Rattle.mesh_plane.specs.Triangles.{cornered, strip};
 ghost use Rattle.tile_mesh.specs.Growth.{Grows};
 ghost use Rattle.tile_mesh.specs.Numbers.{IsOnGrid};
-ghost use Rattle.tile_mesh.specs.Sides.{plane_side, outer_at, inner_at, step_at};
+ghost use Rattle.tile_mesh.specs.Sides.{outer_at, inner_at, step_at};
 ghost use Rattle.tile_mesh.specs.Merge.{merge};
 ghost use Rattle.tile_mesh.specs.Rule.{strip_triangles};
 
 use crate::builder::Builder;
 use crate::point::GridPoint;
-use crate::side::Side;
-use terrain_base::NoMemory;
+use crate::side::{inner_point, outer_point};
+use terrain_base::{NoMemory, Side};
 
 impl Builder {
     /// Adds the triangle of an outer point, an inner one and the next point of the strip after them.
@@ -25,7 +25,7 @@ impl Builder {
         requires outer { IsOnGrid outer }
         requires inner { IsOnGrid inner }
         requires next { IsOnGrid next }
-        ensures { OnOk result (Grows (cornered (plane_side side) outer inner next ∷ []) self.old self.new) }
+        ensures { OnOk result (Grows (cornered side outer inner next ∷ []) self.old self.new) }
     {
         match side {
             Side::South | Side::East => self.triangle(outer, next, inner),
@@ -47,26 +47,26 @@ impl Builder {
         requires o { o ≤ 66 }
         requires n { n ≤ 66 }
         ensures { let steps = map (step_at side) (merge outer.now inner.now) in
-            let ts = strip (plane_side side) (outer_at side o) (inner_at side n) steps in
+            let ts = strip side (outer_at side o) (inner_at side n) steps in
             OnOk result (Grows ts self.old self.new) }
     {
-        let (from, to) = (side.outer(o), side.inner(n));
+        let (from, to) = (outer_point(side, o), inner_point(side, n));
         match (outer, inner) {
             ([], []) => Ok(()),
             ([x, xs @ ..], []) => {
-                self.corner(side, from, to, side.outer(*x))?;
+                self.corner(side, from, to, outer_point(side, *x))?;
                 self.strip_from(side, xs, inner, *x, n)
             }
             ([], [y, ys @ ..]) => {
-                self.corner(side, from, to, side.inner(*y))?;
+                self.corner(side, from, to, inner_point(side, *y))?;
                 self.strip_from(side, outer, ys, o, *y)
             }
             ([x, xs @ ..], [y, ys @ ..]) => {
                 if *x <= *y {
-                    self.corner(side, from, to, side.outer(*x))?;
+                    self.corner(side, from, to, outer_point(side, *x))?;
                     return self.strip_from(side, xs, inner, *x, n);
                 }
-                self.corner(side, from, to, side.inner(*y))?;
+                self.corner(side, from, to, inner_point(side, *y))?;
                 self.strip_from(side, outer, ys, o, *y)
             }
         }

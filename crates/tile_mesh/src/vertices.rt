@@ -6,9 +6,9 @@ ghost use Rattle.tile_mesh.specs.Numbers.{IsOnGrid, point_eq};
 
 use crate::builder::Builder;
 use crate::point::{GridPoint, MeshPoint};
-use crate::side::Side;
+use crate::side::outer_point;
 use std::alloc::Global;
-use terrain_base::{Grid, NoMemory};
+use terrain_base::{Grid, NoMemory, Side};
 
 impl Builder {
     /// The points as vertices on a grid, in their order.
@@ -45,7 +45,7 @@ impl Builder {
     {
         let mut numbers = Vec::new(alloc);
         for index in 0..67u8 {
-            self.push_number(&mut numbers, side.outer(index))?;
+            self.push_number(&mut numbers, outer_point(side, index))?;
         }
         Ok(numbers)
     }

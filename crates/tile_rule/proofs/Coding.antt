@@ -6,7 +6,7 @@ use Rattle.std.proofs.lemmas.List.Elements.{All-map, All-weaker}
 use Rattle.tms_tree.proofs.Places.{line_within}
 use Rattle.terrain_base.specs.FirstUse.{IsByFirstUse, corners}
 use Rattle.mesh_codec.specs.Mesh.{IsMesh, IsVertex, IsTriangle, IsEdge, IsEncodable}
-use Rattle.tile_mesh.specs.declared.side.Side.TheVariants.{West, South, East, North}
+use Rattle.terrain_base.specs.declared.side.Side.TheVariants.{West, South, East, North}
 use Rattle.tile_mesh.specs.Mesh.{Mesh}
 use Rattle.tile_mesh.specs.MeshNumbers.{IsNumbered}
 use Rattle.tile_mesh.specs.Numbering.{ArePoints}

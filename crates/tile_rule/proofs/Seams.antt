@@ -3,14 +3,12 @@ use Rattle.std.proofs.Common.{◌≡◌, ℕ, zero, suc, ◌+◌, ◌<◌, ◌�
 use Rattle.std.specs.Prelude.{ℤ, pos}
 use Rattle.std.specs.List.{range_with_len}
 use Rattle.terrain_base.specs.declared.tile.TileId.{TileId}
-use Rattle.terrain_base.specs.Grid.{IsGrid, line_of, height_in}
+use Rattle.terrain_base.specs.Grid.{IsGrid, line_position, height_in}
 use Rattle.mesh_plane.specs.declared.corner.Corner.{Corner}
-use Rattle.mesh_codec.specs.declared.edge.Edge.{Edge}
-use Rattle.mesh_codec.specs.declared.edge.Edge.TheVariants as edge
+use Rattle.terrain_base.specs.declared.side.Side.{Side}
 use Rattle.mesh_codec.specs.declared.header.Header.{Header}
 use Rattle.mesh_codec.specs.Mesh as coded
-use Rattle.tile_mesh.specs.declared.side.Side.{Side}
-use Rattle.tile_mesh.specs.declared.side.Side.TheVariants.{West, South, East, North}
+use Rattle.terrain_base.specs.declared.side.Side.TheVariants.{West, South, East, North}
 use Rattle.tile_mesh.specs.declared.point.MeshPoint.{MeshPoint}
 use Rattle.tile_mesh.specs.Mesh.{Mesh, edge_of, edge_heights, mesh_of_grid, vertex_at}
 use Rattle.tile_mesh.specs.Plane as plane
@@ -39,14 +37,7 @@ unfolding edge_heights
 same_edge_heights grid other side beside h =
     map_range (λ i. (vertex_at grid (outer_at side i)).metres) (λ i. (vertex_at other (outer_at beside i)).metres) 0 67 (λ i l. h i (omega (arith, l)))
 
--- ---- the edges seen
-abbrev pub by_edge : Side → Edge
-by_edge West = edge.West
-by_edge South = edge.South
-by_edge East = edge.East
-by_edge North = edge.North
-
-same_list : (m : Mesh) (side : Side) → coded.edge_of (coded_mesh m) (by_edge side) ≡ edge_of m side
+same_list : (m : Mesh) (side : Side) → coded.edge_of (coded_mesh m) side ≡ edge_of m side
 unfolding coded_mesh
 same_list m West = refl
 same_list m South = refl
@@ -58,11 +49,11 @@ maps g f [] = refl
 maps g f (x ∷ xs) = ap (λ ys. g (f x) ∷ ys) (maps g f xs)
 
 -- the corners along a side are those of the edge's vertices
-seen_edge : (m : Mesh) (side : Side) → edge_corners (coded_mesh m) (vertices_in m) (by_edge side) ≡ map plane.corner_of (plane.edge_vertices m side)
+seen_edge : (m : Mesh) (side : Side) → edge_corners (coded_mesh m) (vertices_in m) side ≡ map plane.point_corner (plane.edge_vertices m side)
 seen_edge m side =
     ap (λ ns. map (corner_at (vertices_in m)) ns) (same_list m side)
-    ∙ map_same (corner_at (vertices_in m)) (λ n. plane.corner_of (plane.vertex m.points n)) (same_corner (frame_in m) m.points) (edge_of m side)
-    ∙ sym (maps plane.corner_of (plane.vertex m.points) (edge_of m side))
+    ∙ map_same (corner_at (vertices_in m)) (λ n. plane.point_corner (plane.vertex m.points n)) (same_corner (frame_in m) m.points) (edge_of m side)
+    ∙ sym (maps plane.point_corner (plane.vertex m.points) (edge_of m side))
 
 -- along a side that runs north, and one that runs east
 abbrev pub north_pair : Corner → ℤ × ℤ
@@ -73,24 +64,24 @@ east_pair c = (c.u, c.h)
 
 -- an index along an edge and a height, by the place in tile units
 abbrev placed : ℕ × ℤ → ℤ × ℤ
-placed entry = (pos (line_of entry.0), entry.1)
+placed entry = (pos (line_position entry.0), entry.1)
 
-pairs_of_profile : (pair : Corner → ℤ × ℤ) (m : Mesh) (side : Side) → ((p : MeshPoint) → pair (plane.corner_of p) ≡ (pos (line_of (index_along side p)), p.metres))
-    → map pair (edge_corners (coded_mesh m) (vertices_in m) (by_edge side)) ≡ map placed (edge_profile m side)
+pairs_of_profile : (pair : Corner → ℤ × ℤ) (m : Mesh) (side : Side) → ((p : MeshPoint) → pair (plane.point_corner p) ≡ (pos (line_position (index_along side p)), p.metres))
+    → map pair (edge_corners (coded_mesh m) (vertices_in m) side) ≡ map placed (edge_profile m side)
 pairs_of_profile pair m side h =
     let vertices = plane.edge_vertices m side in
     ap (λ cs. map pair cs) (seen_edge m side)
-    ∙ maps pair plane.corner_of vertices
-    ∙ map_same (λ p. pair (plane.corner_of p)) (λ p. (pos (line_of (index_along side p)), p.metres)) h vertices
+    ∙ maps pair plane.point_corner vertices
+    ∙ map_same (λ p. pair (plane.point_corner p)) (λ p. (pos (line_position (index_along side p)), p.metres)) h vertices
     ∙ sym (maps placed (λ p. (index_along side p, p.metres)) vertices)
 
 -- ---- two tiles
 met : (pair : Corner → ℤ × ℤ) (tile other : TileId) (grid grid' : List ℤ) (side beside : Side) → other.z ≡ tile.z
     → SameHeights grid side grid' beside
-    → ((p : MeshPoint) → pair (plane.corner_of p) ≡ (pos (line_of (index_along side p)), p.metres))
-    → ((p : MeshPoint) → pair (plane.corner_of p) ≡ (pos (line_of (index_along beside p)), p.metres))
+    → ((p : MeshPoint) → pair (plane.point_corner p) ≡ (pos (line_position (index_along side p)), p.metres))
+    → ((p : MeshPoint) → pair (plane.point_corner p) ≡ (pos (line_position (index_along beside p)), p.metres))
     → let m = mesh_of_grid grid tile.z in let n = mesh_of_grid grid' other.z in
-    map pair (edge_corners (coded_mesh m) (vertices_in m) (by_edge side)) ≡ map pair (edge_corners (coded_mesh n) (vertices_in n) (by_edge beside))
+    map pair (edge_corners (coded_mesh m) (vertices_in m) side) ≡ map pair (edge_corners (coded_mesh n) (vertices_in n) beside)
 met pair tile other grid grid' side beside level h p q =
     pairs_of_profile pair (mesh_of_grid grid tile.z) side p
     ∙ ap (λ profile. map placed profile) (seam_law grid grid' tile.z side beside (same_edge_heights grid grid' side beside h))
@@ -98,7 +89,7 @@ met pair tile other grid grid' side beside level h p q =
     ∙ sym (pairs_of_profile pair (mesh_of_grid grid' other.z) beside q)
 
 -- what is seen of the file of a grid along a side
-seen_pairs : (pair : Corner → ℤ × ℤ) (tile : TileId) (grid : List ℤ) (side : Edge) (header : Header) (mesh : coded.Mesh) (vertices : List Vertex) → IsGrid grid
+seen_pairs : (pair : Corner → ℤ × ℤ) (tile : TileId) (grid : List ℤ) (side : Side) (header : Header) (mesh : coded.Mesh) (vertices : List Vertex) → IsGrid grid
     → let m = mesh_of_grid grid tile.z in
     (header ≡ header_in tile m) × (mesh ≡ coded_mesh m) × (vertices ≡ vertices_in m)
     → map pair (edge_corners mesh vertices side) ≡ map pair (edge_corners (coded_mesh m) (vertices_in m) side)

@@ -165,7 +165,7 @@ one_sight bytes h k m n vs ws p q =
     (header, mesh, same_vertices p.least p.greatest vs ws codes (recursion_from_All (IsVertex p.least p.greatest) vs p.each) (recursion_from_All (IsVertex p.least p.greatest) ws each))
 
 -- ---- the triangles and the edges seen are those of the mesh rule
-pub same_corner : (frame : HeightFrame) (ps : List MeshPoint) (n : ℕ) → corner_at (map (vertex_of frame) ps) n ≡ plane.corner_of (plane.vertex ps n)
+pub same_corner : (frame : HeightFrame) (ps : List MeshPoint) (n : ℕ) → corner_at (map (vertex_of frame) ps) n ≡ plane.point_corner (plane.vertex ps n)
 same_corner frame [] n = refl
 same_corner frame (p ∷ ps) zero = refl
 same_corner frame (p ∷ ps) (suc n) = same_corner frame ps n

@@ -3,7 +3,7 @@ use Rattle.std.specs.Prelude.{◌≡◌, ℕ, ◌+◌, ◌*◌, ◌^◌, ◌≤�
 use Rattle.std.specs.Prelude.{List, map, length, All, Option, Some, IfSome}
 use Rattle.std.specs.List.{AllZip}
 use Rattle.terrain_base.specs.declared.tile.TileId.{TileId}
-use Rattle.terrain_base.specs.Grid.{line_of, tolerance_of}
+use Rattle.terrain_base.specs.Grid.{line_position, tolerance_of}
 use Rattle.tms_tree.specs.declared.place.Place.{Place}
 use Rattle.tms_tree.specs.Place.{place_of}
 use Rattle.cell_mosaic.specs.Cells.{Cells}
@@ -33,7 +33,7 @@ pub record IsOnlySight (bytes : List ℕ) (header : Header) (mesh : Mesh) (verti
 -- at each grid point the surface is within the level's tolerance of the height
 pub record KeepsHeights (fill : ℤ) (cells : Cells) (tile : TileId) (ts : List Tri) : Type 0 where
   pub near : (i j : ℕ) → i ≤ 66 → j ≤ 66 → (over under : ℤ)
-      → Surface ts (pos 1) (pos (line_of i)) (pos (line_of j)) over under
+      → Surface ts (pos 1) (pos (line_position i)) (pos (line_position j)) over under
       → pos (unsigned_abs (over -ℤ height_at fill cells (place_of tile i j) *ℤ under))
       ≤ℤ (pos (tolerance_of tile.z) *ℤ under)
 

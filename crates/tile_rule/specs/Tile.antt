@@ -3,7 +3,7 @@ use Rattle.std.specs.Prelude.{ℕ, ◌*◌, ℤ, pos, ◌+ℤ◌, ◌-ℤ◌, �
 use Rattle.std.specs.Prelude.{List, [], ◌∷◌, ◌++◌, length, map, Option, Some, None}
 use Rattle.terrain_base.specs.declared.params.Params.{Params}
 use Rattle.terrain_base.specs.declared.tile.TileId.{TileId}
-use Rattle.terrain_base.specs.Grid.{line_of, tolerance_of}
+use Rattle.terrain_base.specs.Grid.{line_position, tolerance_of}
 use Rattle.tms_tree.specs.Place.{place_of}
 use Rattle.cell_mosaic.specs.Cells.{Cells}
 use Rattle.resample.specs.Height.{grid_of}
@@ -38,7 +38,7 @@ frame_in m = frame_of (least_metres m.points) (most_metres m.points)
 
 -- a vertex by its codes
 abbrev pub codes_of : HeightFrame → MeshPoint → Codes
-codes_of frame p = record { u = line_of p.i; v = line_of p.j; height = code_of frame p.metres }
+codes_of frame p = record { u = line_position p.i; v = line_position p.j; height = code_of frame p.metres }
 
 abbrev pub coded_by : HeightFrame → mesh.Mesh → coded.Mesh
 coded_by frame m = record {

@@ -54,7 +54,7 @@ pub record IsInside (n parts : ℕ) (span : Span) : Type 0 where
   pub below : n * span.parts < span.high * parts
 
 -- the closed rectangle has the point, whole turns of longitude left aside
-pub record Holds (rectangle : Rectangle) (point : Point) : Type 0 where
+pub record RectangleHolds (rectangle : Rectangle) (point : Point) : Type 0 where
   pub turns : ℕ
   pub point_turns : ℕ
   pub longitude : IsWithin (point.east + 360 * point_turns * point.parts) point.parts
@@ -62,7 +62,7 @@ pub record Holds (rectangle : Rectangle) (point : Point) : Type 0 where
   pub latitude : IsWithin point.north point.parts rectangle.latitudes
 
 -- the open rectangle has the point, whole turns of longitude left aside
-pub record HoldsInside (rectangle : Rectangle) (point : Point) : Type 0 where
+pub record RectangleHoldsInside (rectangle : Rectangle) (point : Point) : Type 0 where
   pub turns : ℕ
   pub point_turns : ℕ
   pub longitude : IsInside (point.east + 360 * point_turns * point.parts) point.parts

@@ -2,21 +2,21 @@
 use Rattle.std.specs.Prelude.{ℕ, ◌+◌, ◌*◌, ◌^◌, ◌<◌, ◌==◌, ◌↔◌, Bool, ◌&&◌, ◌||◌, nat_lt, nat_le, IsTrue}
 use Rattle.terrain_base.specs.declared.square.Square.{Square}
 use Rattle.terrain_base.specs.declared.tile.TileId.{TileId}
-use Rattle.tms_tree.specs.Degrees.{Point, Holds, HoldsInside, tile_rectangle, square_rectangle}
+use Rattle.tms_tree.specs.Degrees.{Point, RectangleHolds, RectangleHoldsInside, tile_rectangle, square_rectangle}
 
 -- the closed rectangles share a point
 pub record Touches (tile : TileId) (square : Square) : Type 0 where
   pub point : Point
   pub fraction : 0 < point.parts
-  pub of_tile : Holds (tile_rectangle tile) point
-  pub of_square : Holds (square_rectangle square) point
+  pub of_tile : RectangleHolds (tile_rectangle tile) point
+  pub of_square : RectangleHolds (square_rectangle square) point
 
 -- the open rectangles share a point
 pub record Overlaps (tile : TileId) (square : Square) : Type 0 where
   pub point : Point
   pub fraction : 0 < point.parts
-  pub of_tile : HoldsInside (tile_rectangle tile) point
-  pub of_square : HoldsInside (square_rectangle square) point
+  pub of_tile : RectangleHoldsInside (tile_rectangle tile) point
+  pub of_square : RectangleHoldsInside (square_rectangle square) point
 
 -- ---- the same as tests
 

@@ -3,7 +3,7 @@
 ghost use Rattle.std.specs.Prelude.{◌≡◌, ℕ, ◌≤◌};
 ghost use Rattle.terrain_base.specs.declared.tile.TileId as tile;
 ghost use Rattle.tms_tree.specs.Place.{place_of, SamePlace};
-ghost use Rattle.tms_tree.specs.Degrees.{Holds, tile_rectangle};
+ghost use Rattle.tms_tree.specs.Degrees.{RectangleHolds, tile_rectangle};
 ghost use Rattle.tms_tree.specs.Place.{point_of};
 ghost use Rattle.tms_tree.specs.Touch.{TouchIsShared, OverlapIsShared};
 ghost use Rattle.tms_tree.specs.Neighbour.{IsEastOf, IsNorthOf};
@@ -20,7 +20,7 @@ pub fn shared_edges()
 /// Each grid point of a tile lies in its closed rectangle.
 pub fn grid_within_tile()
     ensures { (tile : tile.TileId) (i j : ℕ) → i ≤ 66 → j ≤ 66
-        → Holds (tile_rectangle tile) (point_of (place_of tile i j)) }
+        → RectangleHolds (tile_rectangle tile) (point_of (place_of tile i j)) }
 {}
 
 /// A tile touches a square exactly where their closed rectangles share a point, and overlaps it exactly where their

@@ -7,7 +7,7 @@ use Rattle.terrain_base.specs.Sink.{FrontTaken, IsFront}
 use Rattle.terrain_base.proofs.Runs.{both_done, all_as, some_as, all_some, stops, goes_on, not_yet, quiet}
 use Rattle.top_reply.specs.declared.stop.Stop.{Stop}
 use Rattle.top_reply.specs.declared.stop.Stop.TheVariants.{Input, Store, Output, NoMemory}
-use Rattle.top_reply.specs.Course.{World, Turn, steps_of, text_of, tiles_of, TurnsDone, StopsAt, StopsIn}
+use Rattle.top_reply.specs.Course.{World, Turn, steps_of, turns_text, tiles_of, TurnsDone, StopsAt, StopsIn}
 
 -- ---- what turns after one another come to
 
@@ -16,10 +16,10 @@ steps_append [] ys = refl
 steps_append (x ∷ xs) ys =
     ap (λ zs. x.steps ++ zs) (steps_append xs ys) ∙ sym (append_assoc x.steps (steps_of xs) (steps_of ys))
 
-pub text_append : (xs ys : List Turn) → text_of (xs ++ ys) ≡ text_of xs ++ text_of ys
+pub text_append : (xs ys : List Turn) → turns_text (xs ++ ys) ≡ turns_text xs ++ turns_text ys
 text_append [] ys = refl
 text_append (x ∷ xs) ys =
-    ap (λ zs. x.text ++ zs) (text_append xs ys) ∙ sym (append_assoc x.text (text_of xs) (text_of ys))
+    ap (λ zs. x.text ++ zs) (text_append xs ys) ∙ sym (append_assoc x.text (turns_text xs) (turns_text ys))
 
 pub tiles_append : (xs ys : List Turn) → tiles_of (xs ++ ys) ≡ tiles_of xs + tiles_of ys
 tiles_append [] ys = omega arith
@@ -80,7 +80,7 @@ turns_both {xs = xs} {ys = ys} {w = w} {m = m} {w' = w'} a b =
     let first = a.tiles in let second = b.tiles in let sum = tiles_append xs ys in record {
       steps = all_as (sym (steps_append xs ys)) (both_done a.steps b.steps);
       tiles = omega (arith, first, second, sum);
-      text = told_both (text_of xs) (text_of ys) w.taken m.taken w'.taken a.text b.text
+      text = told_both (turns_text xs) (turns_text ys) w.taken m.taken w'.taken a.text b.text
           ∙ ap (λ zs. option_map (λ x. x ++ zs) w.taken) (sym (text_append xs ys));
     }
 
@@ -141,13 +141,13 @@ in_turn NoMemory turn w w' (inl s) = (s.steps, front_none turn.text w.taken w'.t
 in_turn NoMemory turn w w' (inr t) = (all_some t.steps, t.front)
 
 pub some_first : {stop : Stop} {turns : List Turn} {w w' : World} → StopsIn stop turns w w'
-    → SomeDone (steps_of turns) w.held w.log w'.held w'.log × FrontTaken w.taken (text_of turns) w'.taken
+    → SomeDone (steps_of turns) w.held w.log w'.held w'.log × FrontTaken w.taken (turns_text turns) w'.taken
 some_first {stop = stop} {turns = turns} {w = w} {w' = w'} s =
     let p = in_turn stop s.turn s.mid w' s.at in (
       some_as (sym (ap steps_of s.parts ∙ steps_append s.before (s.turn ∷ s.later)))
           (goes_on s.done.steps (stops (steps_of s.later) p.0)),
       subst (λ text. FrontTaken w.taken text w'.taken)
-          (sym (ap text_of s.parts ∙ text_append s.before (s.turn ∷ s.later)))
-          (front_on (text_of s.before) (s.turn.text ++ text_of s.later) w.taken s.mid.taken w'.taken s.done.text
-          (front_more s.turn.text (text_of s.later) s.mid.taken w'.taken p.1)),
+          (sym (ap turns_text s.parts ∙ text_append s.before (s.turn ∷ s.later)))
+          (front_on (turns_text s.before) (s.turn.text ++ turns_text s.later) w.taken s.mid.taken w'.taken s.done.text
+          (front_more s.turn.text (turns_text s.later) s.mid.taken w'.taken p.1)),
     )

@@ -23,7 +23,7 @@ use Rattle.database.specs.State.{State}
 use Rattle.db_report.specs.Done.{script_line_of, script_mark_of}
 use Rattle.top_reply.specs.declared.stop.Stop.{Stop}
 use Rattle.top_reply.specs.declared.stop.Stop.TheVariants as stop
-use Rattle.top_reply.specs.Course.{World, Turn, quiet_turn, text_of, text_turn, StopsAt}
+use Rattle.top_reply.specs.Course.{World, Turn, quiet_turn, turns_text, text_turn, StopsAt}
 use Rattle.top_reply.specs.Edits.{Wanted, Refused, Wants, done_line, wanted_by, wanted_of, wanted_reply, command_reply_by}
 use Rattle.top_reply.specs.File.{Bytes, NoFile, cell_limit, found_in, too_long_text}
 use Rattle.top_reply.specs.Laws.{LinesAreTold}
@@ -214,12 +214,12 @@ end_told done refused = record {
 }
 
 count_turns : (turns : List Turn) (rest : List ℕ) → AreTold turns
-    → lines_told (text_of turns ++ rest) ≡ length turns + lines_told rest
+    → lines_told (turns_text turns ++ rest) ≡ length turns + lines_told rest
 unfolding AreTold
 count_turns [] rest all = omega arith
 count_turns (turn ∷ turns) rest all =
-    let first = ap lines_told (append_assoc turn.text (text_of turns) rest)
-    ∙ whole_told true turn.text (text_of turns ++ rest) all.0 in
+    let first = ap lines_told (append_assoc turn.text (turns_text turns) rest)
+    ∙ whole_told true turn.text (turns_text turns ++ rest) all.0 in
     let later = count_turns turns rest all.1 in
     omega (arith, first, later)
 
@@ -323,15 +323,15 @@ front_count tells text front one (inr all) =
 
 -- behind turns of lines
 counts_behind : (e : Stop) (before : List Turn) (turn : Turn) (taken more : List ℕ) (told taken' : Option (List ℕ))
-    → Cut before turn → told ≡ Some (taken ++ text_of before) → (put : Put e turn.text (taken ++ text_of before) taken')
+    → Cut before turn → told ≡ Some (taken ++ turns_text before) → (put : Put e turn.text (taken ++ turns_text before) taken')
     → taken' ≡ Some (taken ++ more) → Counts e (length before) (lines_told more) (taken' ≡ told → ⊥)
 counts_behind e before turn taken more told taken' cut is put follows =
     by_front (front_count cut.tells turn.text (take put.count turn.text) cut.one
     (front_told cut.tells turn.text put.count cut.one))
   where
     all_told : lines_told more ≡ length before + lines_told (take put.count turn.text)
-    all_told = ap lines_told (same_more taken more (text_of before ++ take put.count turn.text) taken' follows
-        (put.follows ∙ ap Some (append_assoc taken (text_of before) (take put.count turn.text))))
+    all_told = ap lines_told (same_more taken more (turns_text before ++ take put.count turn.text) taken' follows
+        (put.follows ∙ ap Some (append_assoc taken (turns_text before) (take put.count turn.text))))
         ∙ count_turns before (take put.count turn.text) cut.are
 
     by_front : (lines_told (take put.count turn.text) ≡ 0)
@@ -340,19 +340,19 @@ counts_behind e before turn taken more told taken' cut is put follows =
     by_front (inl none) = inl (omega (arith, all_told, none))
     by_front (inr (one, all)) = inr (
       omega (arith, all_told, one),
-      put_whole cut.tells turn.text (taken ++ text_of before) told taken' put.count cut.one is put.follows all,
-      not_input e cut.tells turn.text (taken ++ text_of before) taken' put cut.one all,
+      put_whole cut.tells turn.text (taken ++ turns_text before) told taken' put.count cut.one is put.follows all,
+      not_input e cut.tells turn.text (taken ++ turns_text before) taken' put cut.one all,
     )
 
 -- ---- of a script
 
 told_mid : (before : List Turn) (w mid : World) (taken : List ℕ) → w.taken ≡ Some taken
-    → mid.taken ≡ option_map (λ x. x ++ text_of before) w.taken → mid.taken ≡ Some (taken ++ text_of before)
-told_mid before w mid taken is done = done ∙ ap (option_map (λ x. x ++ text_of before)) is
+    → mid.taken ≡ option_map (λ x. x ++ turns_text before) w.taken → mid.taken ≡ Some (taken ++ turns_text before)
+told_mid before w mid taken is done = done ∙ ap (option_map (λ x. x ++ turns_text before)) is
 
 counts : (e : Stop) (xs before later : List Turn) (steps : List Step) (tiles : ℕ) (last turn : Turn) (w mid w' : World)
     (taken more : List ℕ) → quiet_turn steps tiles ∷ (xs ++ last ∷ []) ≡ before ++ turn ∷ later → AreTold xs
-    → OneLine false last.text → mid.taken ≡ option_map (λ x. x ++ text_of before) w.taken → StopsAt e turn mid w'
+    → OneLine false last.text → mid.taken ≡ option_map (λ x. x ++ turns_text before) w.taken → StopsAt e turn mid w'
     → w.taken ≡ Some taken → w'.taken ≡ Some (taken ++ more)
     → Counts e (length before - 1) (lines_told more) (w'.taken ≡ mid.taken → ⊥)
 counts e xs [] later steps tiles last turn w mid w' taken more parts all end done at is follows =
@@ -368,12 +368,12 @@ counts e xs [] later steps tiles last turn w mid w' taken more parts all end don
 counts e xs (first ∷ before) later steps tiles last turn w mid w' taken more parts all end done at is follows =
     let same : quiet_turn steps tiles ≡ first = cc in
     let rest : xs ++ last ∷ [] ≡ before ++ turn ∷ later = cc in
-    let texts : text_of (first ∷ before) ≡ text_of before =
-    ap (λ (t : Turn). t.text ++ text_of before) (sym same) in
-    let here : mid.taken ≡ Some (taken ++ text_of before) =
+    let texts : turns_text (first ∷ before) ≡ turns_text before =
+    ap (λ (t : Turn). t.text ++ turns_text before) (sym same) in
+    let here : mid.taken ≡ Some (taken ++ turns_text before) =
     told_mid (first ∷ before) w mid taken is done ∙ ap (λ text. Some (taken ++ text)) texts in
     let cut = cut_at xs before later last turn rest all end in
-    let put = is_put e turn mid w' (taken ++ text_of before) here at in
+    let put = is_put e turn mid w' (taken ++ turns_text before) here at in
     let size : length before ≡ length (first ∷ before) - 1 = omega arith in
     subst (λ n. Counts e n (lines_told more) (w'.taken ≡ mid.taken → ⊥)) size
     (counts_behind e before turn taken more mid.taken w'.taken cut here put follows)

@@ -34,9 +34,9 @@ abbrev pub tiles_of : List Turn → ℕ
 tiles_of [] = 0
 tiles_of (turn ∷ turns) = turn.tiles + tiles_of turns
 
-abbrev pub text_of : List Turn → List ℕ
-text_of [] = []
-text_of (turn ∷ turns) = turn.text ++ text_of turns
+abbrev pub turns_text : List Turn → List ℕ
+turns_text [] = []
+turns_text (turn ∷ turns) = turn.text ++ turns_text turns
 
 -- a status, and the turns of a run that nothing stops
 pub record Course : Type 0 where
@@ -67,7 +67,7 @@ pub record IsSaid (Is : Reply → Type 0) (course : Course) : Type 0 where
 pub record TurnsDone (turns : List Turn) (w w' : World) : Type 0 where
   pub steps : AllDone (steps_of turns) w.held w.log w'.held w'.log
   pub tiles : w'.work ≤ w.work + tiles_of turns
-  pub text : w'.taken ≡ option_map (λ taken. taken ++ text_of turns) w.taken
+  pub text : w'.taken ≡ option_map (λ taken. taken ++ turns_text turns) w.taken
 
 -- where in a turn it stopped: before it, among its changes, or when it was printed
 pub record NotBegun (w w' : World) : Type 0 where

@@ -17,7 +17,7 @@ use Rattle.db_engine.specs.Holding.{no_cells}
 use Rattle.db_engine.specs.Settling.{count_settling}
 use Rattle.top_reply.specs.declared.status.Status.{Status}
 use Rattle.top_reply.specs.declared.stop.Stop.{Stop}
-use Rattle.top_reply.specs.Course.{Course, World, quiet_turn, steps_of, text_of}
+use Rattle.top_reply.specs.Course.{Course, World, quiet_turn, steps_of, turns_text}
 use Rattle.top_reply.specs.Database.{IsOpenedCourse}
 use Rattle.top_reply.specs.File.{HoldsBytes}
 use Rattle.top_reply.specs.Good.{IsGoodDatabase}
@@ -71,7 +71,7 @@ OnStop status P = OnStopBy (stop_of status) P
 -- the log grew by some first changes of the course, and the sink took some first bytes of its text
 pub record IsFrontOf (course : Course) (w w' : World) : Type 0 where
   pub changes : SomeDone (steps_of course.turns) w.held w.log w'.held w'.log
-  pub text : FrontTaken w.taken (text_of course.turns) w'.taken
+  pub text : FrontTaken w.taken (turns_text course.turns) w'.taken
 
 -- files of a state that were settled first: they are those of a state that the command passes, as `Is` says
 abbrev pub StopsFrom : (Files → State → Type 0) → DatabaseCommand → LibraryFiles → State → ManifestState → Files

@@ -13,7 +13,7 @@ use Rattle.terrain_base.specs.Division.{IsRoot, floor_of, ceil_of, root_of}
 use Rattle.terrain_base.proofs.Quotients.{floor_is, ceil_is, root_is, root_le, neg_mul, mul_mono, mul_off}
 use Rattle.whole_interval.specs.declared.interval.Interval.{Interval}
 use Rattle.whole_interval.specs.Fraction.{Fraction, plus, minus, times, over_whole, over, negated}
-use Rattle.whole_interval.specs.Interval.{Holds, least_of, greatest_of, IsRootUp, root_up_of}
+use Rattle.whole_interval.specs.Interval.{IntervalHolds, least_of, greatest_of, IsRootUp, root_up_of}
 use Rattle.whole_interval.specs.Interval.{add_of, sub_of, negated_of, mul_of, div_whole_of, div_pos_of}
 use Rattle.whole_interval.specs.Interval.{sqrt_of}
 use Rattle.whole_interval.proofs.Bounds.{le_trans_z, sum_low, sum_high, neg_order, product_low}
@@ -31,18 +31,18 @@ same_ends lo hi r e f = let P : ℤ → ℤ → Interval = λ x y. record { lo =
 pub ordered_as : {r s : Interval} → r ≡ s → s.lo ≤ℤ s.hi → r.lo ≤ℤ r.hi
 ordered_as {r} {s} e h = rw e h
 
-pub holds_as : {r s : Interval} (f : Fraction) → r ≡ s → Holds s f → Holds r f
+pub holds_as : {r s : Interval} (f : Fraction) → r ≡ s → IntervalHolds s f → IntervalHolds r f
 holds_as {r} {s} f e h = rw e h
 
 -- an interval that holds a fraction has its ends in order
-pub held_ordered : (a : Interval) (f : Fraction) → 0 < f.denominator → Holds a f → a.lo ≤ℤ a.hi
+pub held_ordered : (a : Interval) (f : Fraction) → 0 < f.denominator → IntervalHolds a f → a.lo ≤ℤ a.hi
 held_ordered a f p h = mul_off f.denominator a.lo a.hi p (le_trans_z h.low h.high)
 
 pub holds_low_end : (a : Interval) → a.lo ≤ℤ a.hi
-    → Holds a (record { numerator = a.lo; denominator = 2 ^ 48 })
+    → IntervalHolds a (record { numerator = a.lo; denominator = 2 ^ 48 })
 holds_low_end a h = record { low = omega (arith, ints); high = mul_mono (2 ^ 48) a.lo a.hi h }
 
-pub add_holds : (a b : Interval) (f g : Fraction) → Holds a f → Holds b g → Holds (add_of a b) (plus f g)
+pub add_holds : (a b : Interval) (f g : Fraction) → IntervalHolds a f → IntervalHolds b g → IntervalHolds (add_of a b) (plus f g)
 unfolding add_of
 add_holds a b f g h k = record {
   low = sum_low (pos (2 ^ 48)) a.lo b.lo f.numerator g.numerator f.denominator g.denominator h.low k.low;
@@ -50,14 +50,14 @@ add_holds a b f g h k = record {
       k.high;
 }
 
-pub negated_holds : (a : Interval) (f : Fraction) → Holds a f → Holds (negated_of a) (negated f)
+pub negated_holds : (a : Interval) (f : Fraction) → IntervalHolds a f → IntervalHolds (negated_of a) (negated f)
 unfolding negated_of
 negated_holds a f h = record {
   low = rw (neg_mul a.hi (pos f.denominator), neg_mul f.numerator (pos (2 ^ 48))) (neg_order h.high);
   high = rw (neg_mul a.lo (pos f.denominator), neg_mul f.numerator (pos (2 ^ 48))) (neg_order h.low);
 }
 
-pub sub_holds : (a b : Interval) (f g : Fraction) → Holds a f → Holds b g → Holds (sub_of a b) (minus f g)
+pub sub_holds : (a b : Interval) (f g : Fraction) → IntervalHolds a f → IntervalHolds b g → IntervalHolds (sub_of a b) (minus f g)
 unfolding sub_of add_of negated_of
 sub_holds a b f g h k =
     let sum = add_holds a (negated_of b) f (negated g) h (negated_holds b g k) in
@@ -80,7 +80,7 @@ pub greatest_above : (p q r s : ℤ)
     × (s ≤ℤ greatest_of p q r s)
 greatest_above p q r s = omega (arith, ints, max_two p q, max_two r s, max_two (int_max p q) (int_max r s))
 
-pub mul_holds : (a b : Interval) (f g : Fraction) → Holds a f → Holds b g → Holds (mul_of a b) (times f g)
+pub mul_holds : (a b : Interval) (f g : Fraction) → IntervalHolds a f → IntervalHolds b g → IntervalHolds (mul_of a b) (times f g)
 unfolding mul_of
 mul_holds a b f g h k =
     let l = least_below (a.lo *ℤ b.lo) (a.lo *ℤ b.hi) (a.hi *ℤ b.lo) (a.hi *ℤ b.hi) in
@@ -98,8 +98,8 @@ mul_holds a b f g h k =
           (le_trans_z m.0 up) (le_trans_z m.1 up) (le_trans_z m.2 up) (le_trans_z m.3 up);
     }
 
-pub div_whole_holds : (a : Interval) (k : ℕ) (f : Fraction) → 0 < k → Holds a f
-    → Holds (div_whole_of a k) (over_whole f k)
+pub div_whole_holds : (a : Interval) (k : ℕ) (f : Fraction) → 0 < k → IntervalHolds a f
+    → IntervalHolds (div_whole_of a k) (over_whole f k)
 unfolding div_whole_of
 div_whole_holds a k f p h = record {
   low = whole_low (pos (2 ^ 48)) _ a.lo f.numerator f.denominator k
@@ -153,9 +153,9 @@ not_below bl m e p l =
     let from : (pos 0 *ℤ pos e) ≤ℤ (bl *ℤ pos e) = mul_mono e (pos 0) bl (omega (arith, ints, p)) in
     omega (arith, ints, from, l)
 
-div_pos_by : (a b : Interval) (f : Fraction) (m : ℤ) (e : ℕ) → pos 0 <ℤ b.lo → b.lo ≤ℤ b.hi → Holds a f
-    → Holds b (record { numerator = m; denominator = e })
-    → Holds (div_pos_of a b) (over f (record { numerator = m; denominator = e }))
+div_pos_by : (a b : Interval) (f : Fraction) (m : ℤ) (e : ℕ) → pos 0 <ℤ b.lo → b.lo ≤ℤ b.hi → IntervalHolds a f
+    → IntervalHolds b (record { numerator = m; denominator = e })
+    → IntervalHolds (div_pos_of a b) (over f (record { numerator = m; denominator = e }))
 unfolding div_pos_of
 div_pos_by a b f (pos m) e p o h k = record {
   low = div_low a.lo f.numerator b.lo b.hi f.denominator m e (int_lt a.lo (pos 0)) refl p o k.low k.high
@@ -165,8 +165,8 @@ div_pos_by a b f (pos m) e p o h k = record {
 }
 div_pos_by a b f (negsuc m) e p o h k = absurd (not_below b.lo m e p k.low)
 
-pub div_pos_holds : (a b : Interval) (f g : Fraction) → pos 0 <ℤ b.lo → b.lo ≤ℤ b.hi → Holds a f → Holds b g
-    → Holds (div_pos_of a b) (over f g)
+pub div_pos_holds : (a b : Interval) (f g : Fraction) → pos 0 <ℤ b.lo → b.lo ≤ℤ b.hi → IntervalHolds a f → IntervalHolds b g
+    → IntervalHolds (div_pos_of a b) (over f g)
 div_pos_holds a b f g p o h k = div_pos_by a b f g.numerator g.denominator p o h k
 
 -- the least whole number whose square is at least n
@@ -217,7 +217,7 @@ sqrt_by (pos x) (negsuc y) n d p q r l h = absurd (omega (arith, ints))
 sqrt_by (pos x) (pos y) (negsuc n) d p q r l h = absurd (omega (arith, ints))
 
 pub sqrt_holds : (a : Interval) (f : Fraction) → pos 0 ≤ℤ a.lo → a.lo ≤ℤ a.hi → pos 0 ≤ℤ f.numerator
-    → Holds a (times f f) → Holds (sqrt_of a) f
+    → IntervalHolds a (times f f) → IntervalHolds (sqrt_of a) f
 unfolding sqrt_of
 sqrt_holds a f p o q h =
     let both = sqrt_by a.lo a.hi f.numerator f.denominator p (omega (arith, ints, p, o)) q h.low h.high in

@@ -13,7 +13,7 @@ use Rattle.terrain_base.proofs.Quotients.{mul_mono, mul_off}
 use Rattle.whole_interval.specs.declared.interval.Interval.{Interval}
 use Rattle.whole_interval.specs.declared.sine_cosine.SineCosine.{SineCosine}
 use Rattle.whole_interval.specs.Fraction.{Fraction, plus, minus, times, over_whole, negated, IsAtMost}
-use Rattle.whole_interval.specs.Interval.{Holds, add_of, sub_of, negated_of, mul_of}
+use Rattle.whole_interval.specs.Interval.{IntervalHolds, add_of, sub_of, negated_of, mul_of}
 use Rattle.whole_interval.specs.HalfTurn.{one_of, angle_of, next_of, term_of, alternated_of, partial_of}
 use Rattle.whole_interval.specs.HalfTurn.{series_of, octant_sine_of, octant_cosine_of, quarter_sine_of}
 use Rattle.whole_interval.specs.HalfTurn.{quarter_cosine_of, turned_of, turn_of, pi_low, pi_high}
@@ -34,7 +34,7 @@ same_fraction : (n : ℤ) (d : ℕ) (f : Fraction) → n ≡ f.numerator → d �
 same_fraction n d f e g = let P : ℤ → ℕ → Fraction = λ x y. record { numerator = x; denominator = y } in ap
     (λ x. P x d) e ∙ ap (λ y. P f.numerator y) g
 
-holds_same : {a : Interval} {f g : Fraction} → f ≡ g → Holds a f → Holds a g
+holds_same : {a : Interval} {f g : Fraction} → f ≡ g → IntervalHolds a f → IntervalHolds a g
 holds_same {a} {f} {g} e h = rw e at h
 
 -- ---- the terms
@@ -64,16 +64,16 @@ first_power x = same_fraction x.numerator x.denominator (power_over_factorial x 
     (by_ring (var 0) (mul (num 1) (var 0)) (x.numerator ∷ []) refl)
     (rw (pow-suc x.denominator 0, pow-zero x.denominator) (omega arith))
 
-one_holds : (x : Fraction) → Holds one_of (power_over_factorial x 0)
+one_holds : (x : Fraction) → IntervalHolds one_of (power_over_factorial x 0)
 unfolding power_over_factorial power factorial
 one_holds x = record {
   low = omega (arith, ints, pow-zero x.denominator);
   high = omega (arith, ints, pow-zero x.denominator);
 }
 
-next_holds : (term square : Interval) (from j : ℕ) (x f : Fraction) → 0 < from → Holds term f
-    → Holds square (times x x)
-    → Holds (next_of term square from j)
+next_holds : (term square : Interval) (from j : ℕ) (x f : Fraction) → 0 < from → IntervalHolds term f
+    → IntervalHolds square (times x x)
+    → IntervalHolds (next_of term square from j)
     (over_whole (times f (times x x)) ((2 * j + from) * (2 * j + from + 1)))
 unfolding next_of
 next_holds term square from j x f p h g =
@@ -81,8 +81,8 @@ next_holds term square from j x f p h g =
     (mul_holds term square f (times x x) h g)
 
 pub term_holds : (j n : ℕ) (first square : Interval) (from : ℕ) (x : Fraction) → from ≡ n + 1
-    → Holds first (power_over_factorial x n) → Holds square (times x x)
-    → Holds (term_of first square from j) (power_over_factorial x (2 * j + n))
+    → IntervalHolds first (power_over_factorial x n) → IntervalHolds square (times x x)
+    → IntervalHolds (term_of first square from j) (power_over_factorial x (2 * j + n))
 unfolding term_of
 term_holds zero n first square from x e h g = let same : n ≡ 2 * 0 + n = omega arith in holds_same
     (ap (power_over_factorial x) same) h
@@ -93,24 +93,24 @@ term_holds (suc j) n first square from x e h g = holds_same
     (term_holds j n first square from x e h g) g)
 
 -- ---- the partial sums
-alternated_by : (c : Bool) (sum term : Interval) (f g : Fraction) → Holds sum f → Holds term g
-    → Holds (if c then sub_of sum term else add_of sum term) (if c then minus f g else plus f g)
+alternated_by : (c : Bool) (sum term : Interval) (f g : Fraction) → IntervalHolds sum f → IntervalHolds term g
+    → IntervalHolds (if c then sub_of sum term else add_of sum term) (if c then minus f g else plus f g)
 alternated_by true sum term f g h k = sub_holds sum term f g h k
 alternated_by false sum term f g h k = add_holds sum term f g h k
 
-alternated_holds : (j : ℕ) (sum term : Interval) (f g : Fraction) → Holds sum f → Holds term g
-    → Holds (alternated_of sum term j) (if j % 2 == 0 then minus f g else plus f g)
+alternated_holds : (j : ℕ) (sum term : Interval) (f g : Fraction) → IntervalHolds sum f → IntervalHolds term g
+    → IntervalHolds (alternated_of sum term j) (if j % 2 == 0 then minus f g else plus f g)
 unfolding alternated_of
 alternated_holds j sum term f g h k = alternated_by (j % 2 == 0) sum term f g h k
 
-first_holds : (first square : Interval) (from : ℕ) (f : Fraction) → Holds (term_of first square from 0) f
-    → Holds first f
+first_holds : (first square : Interval) (from : ℕ) (f : Fraction) → IntervalHolds (term_of first square from 0) f
+    → IntervalHolds first f
 unfolding term_of
 first_holds first square from f h = h
 
 pub partial_holds : (j : ℕ) (first square : Interval) (from : ℕ) (term : ℕ → Fraction)
-    → ((i : ℕ) → Holds (term_of first square from i) (term i))
-    → Holds (partial_of first square from j) (alternating term j)
+    → ((i : ℕ) → IntervalHolds (term_of first square from i) (term i))
+    → IntervalHolds (partial_of first square from j) (alternating term j)
 unfolding partial_of alternating
 partial_holds zero first square from term h = first_holds first square from (term 0) (h 0)
 partial_holds (suc j) first square from term h = alternated_holds j _ _ _ _
@@ -171,9 +171,9 @@ below_high hi k f g p h l =
     mul_off f.denominator _ _ p (le_trans_z two one)
 
 pub series_holds : (first square : Interval) (from : ℕ) (term : ℕ → Fraction) (s : Fraction)
-    → ((i : ℕ) → Holds (term_of first square from i) (term i)) → ((i : ℕ) → 0 < (term i).denominator)
+    → ((i : ℕ) → IntervalHolds (term_of first square from i) (term i)) → ((i : ℕ) → 0 < (term i).denominator)
     → IsSum term s
-    → Holds (series_of first square from) s
+    → IntervalHolds (series_of first square from) s
 unfolding series_of
 series_holds first square from term s h p b = record {
   low = above_low _ (2 ^ 48) (alternating term 7) s (alternating_positive 7 term p)
@@ -205,7 +205,7 @@ angle_high q y high t p z k x a b h g l =
 quotient_down : (x y : ℕ) → 0 < y → x / y * y ≤ x
 quotient_down x y p = omega arith
 
-pub angle_holds : (t d : ℕ) (x : Fraction) → 0 < d → IsAngle t d x → Holds (angle_of t d) x
+pub angle_holds : (t d : ℕ) (x : Fraction) → 0 < d → IsAngle t d x → IntervalHolds (angle_of t d) x
 unfolding angle_of
 angle_holds t d x p h =
     let y : 0 < 2 * d = omega arith in
@@ -219,7 +219,7 @@ angle_holds t d x p h =
     }
 
 -- ---- sines and cosines
-octant_sine_holds : (t d : ℕ) (s : Fraction) → 0 < d → IsOctantSine t d s → Holds (octant_sine_of t d) s
+octant_sine_holds : (t d : ℕ) (s : Fraction) → 0 < d → IsOctantSine t d s → IntervalHolds (octant_sine_of t d) s
 unfolding octant_sine_of
 octant_sine_holds t d s p h =
     let x = angle_holds t d h.angle p h.is_angle in
@@ -230,7 +230,7 @@ octant_sine_holds t d s p h =
     (λ j. term_positive h.angle (2 * j + 1) h.is_angle.positive) h.is_sum
 
 octant_cosine_holds : (t d : ℕ) (s : Fraction) → 0 < d → IsOctantCosine t d s
-    → Holds (octant_cosine_of t d) s
+    → IntervalHolds (octant_cosine_of t d) s
 unfolding octant_cosine_of
 octant_cosine_holds t d s p h =
     let x = angle_holds t d h.angle p h.is_angle in
@@ -243,22 +243,22 @@ octant_cosine_holds t d s p h =
 
 sine_by : (c : Bool) (r d : ℕ) (s : Fraction) → 0 < d
     → MatchBool c (IsOctantSine r d s) (IsOctantCosine (d - r) d s)
-    → Holds (if c then octant_sine_of r d else octant_cosine_of (d - r) d) s
+    → IntervalHolds (if c then octant_sine_of r d else octant_cosine_of (d - r) d) s
 sine_by true r d s p h = octant_sine_holds r d s p h
 sine_by false r d s p h = octant_cosine_holds (d - r) d s p h
 
-quarter_sine_holds : (r d : ℕ) (s : Fraction) → 0 < d → IsQuarterSine r d s → Holds (quarter_sine_of r d) s
+quarter_sine_holds : (r d : ℕ) (s : Fraction) → 0 < d → IsQuarterSine r d s → IntervalHolds (quarter_sine_of r d) s
 unfolding quarter_sine_of
 quarter_sine_holds r d s p h = sine_by (nat_le (2 * r) d) r d s p h
 
 cosine_by : (c : Bool) (r d : ℕ) (s : Fraction) → 0 < d
     → MatchBool c (IsOctantCosine r d s) (IsOctantSine (d - r) d s)
-    → Holds (if c then octant_cosine_of r d else octant_sine_of (d - r) d) s
+    → IntervalHolds (if c then octant_cosine_of r d else octant_sine_of (d - r) d) s
 cosine_by true r d s p h = octant_cosine_holds r d s p h
 cosine_by false r d s p h = octant_sine_holds (d - r) d s p h
 
 quarter_cosine_holds : (r d : ℕ) (s : Fraction) → 0 < d → IsQuarterCosine r d s
-    → Holds (quarter_cosine_of r d) s
+    → IntervalHolds (quarter_cosine_of r d) s
 unfolding quarter_cosine_of
 quarter_cosine_holds r d s p h = cosine_by (nat_le (2 * r) d) r d s p h
 
@@ -266,14 +266,14 @@ quarter_cosine_holds r d s p h = cosine_by (nat_le (2 * r) d) r d s p h
 neg_neg : (z : ℤ) → neg_ℤ (neg_ℤ z) ≡ z
 neg_neg z = omega (arith, ints)
 
-negated_back : (a : Interval) (s : Fraction) → Holds a (negated s) → Holds (negated_of a) s
+negated_back : (a : Interval) (s : Fraction) → IntervalHolds a (negated s) → IntervalHolds (negated_of a) s
 negated_back a s h =
     let both = negated_holds a (negated s) h in
     let e : negated (negated s) ≡ s = same_fraction _ _ s (neg_neg s.numerator) refl in
     holds_same e both
 
 turned_sine_holds : (k r d : ℕ) (s : Fraction) → 0 < d → IsTurnedSine k r d s
-    → Holds (turned_of k (quarter_sine_of r d) (quarter_cosine_of r d)).sine s
+    → IntervalHolds (turned_of k (quarter_sine_of r d) (quarter_cosine_of r d)).sine s
 turned_sine_holds zero r d s p h =
     holds_as s (ap (λ (t : SineCosine). t.sine) (sym (turned_none 0 _ _ refl)))
     (quarter_sine_holds r d s p h)
@@ -290,7 +290,7 @@ turned_sine_holds (suc (suc (suc k))) r d s p h =
     (negated_back _ s (quarter_cosine_holds r d (negated s) p h))
 
 turned_cosine_holds : (k r d : ℕ) (s : Fraction) → 0 < d → IsTurnedCosine k r d s
-    → Holds (turned_of k (quarter_sine_of r d) (quarter_cosine_of r d)).cosine s
+    → IntervalHolds (turned_of k (quarter_sine_of r d) (quarter_cosine_of r d)).cosine s
 turned_cosine_holds zero r d s p h =
     holds_as s (ap (λ (t : SineCosine). t.cosine) (sym (turned_none 0 _ _ refl)))
     (quarter_cosine_holds r d s p h)
@@ -307,13 +307,13 @@ turned_cosine_holds (suc (suc (suc k))) r d s p h =
     (quarter_sine_holds r d s p h)
 
 pub sine_holds : (n : ℤ) (d : ℕ) (s : Fraction) → 0 < d → IsSine n d s
-    → Holds (turn_of (within_turn n d) d).sine s
+    → IntervalHolds (turn_of (within_turn n d) d).sine s
 unfolding turn_of IsSine
 sine_holds n d s p h = let m = within_turn n d in turned_sine_holds (quarter_turns m d)
     (left_of_quarter m d) d s p h
 
 pub cosine_holds : (n : ℤ) (d : ℕ) (s : Fraction) → 0 < d → IsCosine n d s
-    → Holds (turn_of (within_turn n d) d).cosine s
+    → IntervalHolds (turn_of (within_turn n d) d).cosine s
 unfolding turn_of IsCosine
 cosine_holds n d s p h = let m = within_turn n d in turned_cosine_holds (quarter_turns m d)
     (left_of_quarter m d) d s p h

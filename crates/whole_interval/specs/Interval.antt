@@ -7,7 +7,7 @@ use Rattle.whole_interval.specs.declared.interval.Interval.{Interval}
 use Rattle.whole_interval.specs.Fraction.{Fraction}
 
 -- an interval stands for the numbers from lo / 2^48 to hi / 2^48: the fraction lies there
-pub record Holds (a : Interval) (f : Fraction) : Type 0 where
+pub record IntervalHolds (a : Interval) (f : Fraction) : Type 0 where
   pub low : (a.lo *ℤ pos f.denominator) ≤ℤ (f.numerator *ℤ pos (2 ^ 48))
   pub high : (f.numerator *ℤ pos (2 ^ 48)) ≤ℤ (a.hi *ℤ pos f.denominator)
 

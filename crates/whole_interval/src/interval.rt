@@ -3,7 +3,7 @@ ghost use Rattle.std.specs.Prelude.{◌≡◌, ℕ, ℤ, ◌+◌, ◌*◌, ◌^�
 ghost use Rattle.std.specs.Prelude.{unsigned_abs, int_lt, if◌then◌else◌};
 ghost use Rattle.terrain_base.specs.Division.{floor_of, ceil_of, root_of};
 ghost use Rattle.whole_interval.specs.Fraction.{Fraction, plus, minus, times, over_whole, over};
-ghost use Rattle.whole_interval.specs.Interval.{Holds, IsWithin, IsRootUp, least_of, greatest_of};
+ghost use Rattle.whole_interval.specs.Interval.{IntervalHolds, IsWithin, IsRootUp, least_of, greatest_of};
 ghost use Rattle.whole_interval.specs.Interval.{root_up_of, add_of, sub_of, mul_of, div_whole_of};
 ghost use Rattle.whole_interval.specs.Interval.{div_pos_of, sqrt_of, negated_of};
 
@@ -25,7 +25,7 @@ pub fn add(a: &Interval, b: &Interval) -> Interval
     requires b { IsWithin 100 b.now }
     ensures exact { result ≡ add_of a.now b.now }
     ensures ordered { result.lo ≤ℤ result.hi }
-    ensures encloses { (f g : Fraction) → Holds a.now f → Holds b.now g → Holds result (plus f g) }
+    ensures encloses { (f g : Fraction) → IntervalHolds a.now f → IntervalHolds b.now g → IntervalHolds result (plus f g) }
 {
     Interval {
         lo: a.lo + b.lo,
@@ -39,7 +39,7 @@ pub fn sub(a: &Interval, b: &Interval) -> Interval
     requires b { IsWithin 100 b.now }
     ensures exact { result ≡ sub_of a.now b.now }
     ensures ordered { result.lo ≤ℤ result.hi }
-    ensures encloses { (f g : Fraction) → Holds a.now f → Holds b.now g → Holds result (minus f g) }
+    ensures encloses { (f g : Fraction) → IntervalHolds a.now f → IntervalHolds b.now g → IntervalHolds result (minus f g) }
 {
     Interval {
         lo: a.lo - b.hi,
@@ -67,7 +67,7 @@ pub fn mul(a: &Interval, b: &Interval) -> Interval
     requires b { IsWithin 50 b.now }
     ensures exact { result ≡ mul_of a.now b.now }
     ensures ordered { result.lo ≤ℤ result.hi }
-    ensures encloses { (f g : Fraction) → Holds a.now f → Holds b.now g → Holds result (times f g) }
+    ensures encloses { (f g : Fraction) → IntervalHolds a.now f → IntervalHolds b.now g → IntervalHolds result (times f g) }
 {
     let p = a.lo * b.lo;
     let q = a.lo * b.hi;
@@ -101,7 +101,7 @@ pub fn div_whole(a: &Interval, k: u32) -> Interval
     requires divisor { 0 < k }
     ensures exact { result ≡ div_whole_of a.now k }
     ensures ordered { result.lo ≤ℤ result.hi }
-    ensures encloses { (f : Fraction) → Holds a.now f → Holds result (over_whole f k) }
+    ensures encloses { (f : Fraction) → IntervalHolds a.now f → IntervalHolds result (over_whole f k) }
 {
     Interval {
         lo: over_down(a.lo, k),
@@ -146,7 +146,7 @@ pub fn div_pos(a: &Interval, b: &Interval) -> Interval
     requires ordered { b.now.lo ≤ℤ b.now.hi }
     ensures exact { result ≡ div_pos_of a.now b.now }
     ensures ordered { result.lo ≤ℤ result.hi }
-    ensures encloses { (f g : Fraction) → Holds a.now f → Holds b.now g → Holds result (over f g) }
+    ensures encloses { (f g : Fraction) → IntervalHolds a.now f → IntervalHolds b.now g → IntervalHolds result (over f g) }
 {
     Interval {
         lo: quotient_low(a.lo, b),
@@ -191,7 +191,7 @@ pub fn sqrt(a: &Interval) -> Interval
     ensures exact { result ≡ sqrt_of a.now }
     ensures root_up { IsRootUp (unsigned_abs a.now.hi * 2 ^ 48) (unsigned_abs result.hi) }
     ensures ordered { result.lo ≤ℤ result.hi }
-    ensures encloses { (f : Fraction) → pos 0 ≤ℤ f.numerator → Holds a.now (times f f) → Holds result f }
+    ensures encloses { (f : Fraction) → pos 0 ≤ℤ f.numerator → IntervalHolds a.now (times f f) → IntervalHolds result f }
 {
     Interval {
         lo: root_low(a.lo),

@@ -2,7 +2,7 @@
 ghost use Rattle.std.specs.Prelude.{◌≡◌, ℕ, ℤ, ◌+◌, ◌*◌, ◌^◌, ◌<◌, ◌≤◌, pos, neg_ℤ, ◌≤ℤ◌, ◌<ℤ◌, ◌*ℤ◌};
 ghost use Rattle.std.specs.Prelude.{unsigned_abs};
 ghost use Rattle.whole_interval.specs.Fraction.{Fraction};
-ghost use Rattle.whole_interval.specs.Interval.{Holds, IsWithin, negated_of};
+ghost use Rattle.whole_interval.specs.Interval.{IntervalHolds, IsWithin, negated_of};
 ghost use Rattle.whole_interval.specs.HalfTurn.{IsUpTo, angle_of, next_of, alternated_of, series_of};
 ghost use Rattle.whole_interval.specs.HalfTurn.{octant_sine_of, octant_cosine_of, quarter_sine_of};
 ghost use Rattle.whole_interval.specs.HalfTurn.{quarter_cosine_of, turned_of, turn_of, half_turn_of};
@@ -202,8 +202,8 @@ pub fn half_turn(n: i128, d: i128) -> SineCosine
     ensures exact { result ≡ half_turn_of n (unsigned_abs d) }
     ensures sine_size { IsWithin 50 result.sine }
     ensures cosine_size { IsWithin 50 result.cosine }
-    ensures sine { (s : Fraction) → IsSine n (unsigned_abs d) s → Holds result.sine s }
-    ensures cosine { (s : Fraction) → IsCosine n (unsigned_abs d) s → Holds result.cosine s }
+    ensures sine { (s : Fraction) → IsSine n (unsigned_abs d) s → IntervalHolds result.sine s }
+    ensures cosine { (s : Fraction) → IsCosine n (unsigned_abs d) s → IntervalHolds result.cosine s }
 {
     turn(n.rem_euclid(2 * d) as u128, d as u128)
 }

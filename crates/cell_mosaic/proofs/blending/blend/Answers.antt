@@ -3,7 +3,7 @@ use Rattle.std.specs.Int.{w128}
 use Rattle.std.specs.List.{list_any}
 use Rattle.std.proofs.lemmas.Int.{to_z-of_z}
 use Rattle.terrain_base.specs.declared.post.Post.TheVariants.{Metres}
-use Rattle.cell_mosaic.specs.Cells.{IsPost}
+use Rattle.dted_cell.specs.Elevation.{IsPost}
 use Rattle.cell_mosaic.specs.Blend.{times, weighted, weighted_sum, counted, has_no_height, IsWithinWeight, blend_of}
 use Rattle.cell_mosaic.proofs.Heaviest.{ArePosts, nothing, heaviest_is_post}
 use Rattle.cell_mosaic.proofs.Sums.{sum_within, average_is, small_fits, height_fits}

@@ -4,7 +4,7 @@ use Rattle.std.specs.Prelude.{ℤ, pos, ◌+ℤ◌, ◌-ℤ◌, ◌*ℤ◌, ◌�
 use Rattle.std.proofs.lemmas.Int.{ints, to_z-of_z}
 use Rattle.cell_mosaic.specs.Cells.{Shapes, HasPost}
 use Rattle.cell_mosaic.proofs.Keeping.{told_next, leaves_none, leaves_ok, leaves_then, leaves_err}
-use Rattle.mesh_plane.specs.Plane.{Holds}
+use Rattle.mesh_plane.specs.Plane.{TriangleHolds}
 use Rattle.mesh_plane.specs.Surface.{lift_of}
 use Rattle.lattice_sweep.specs.Axis.{point_of}
 use Rattle.lattice_sweep.specs.Plane.{IsLift}
@@ -32,8 +32,8 @@ returns-in-None-clause-value g c told is =
     let u_fits : FitsSigned w64 c.at.result = search rules in
     let v_fits : FitsSigned w64 c.at-2.result = search rules in
     let apart = simp to_z-of_z at c.in-None.ensures in
-    absurd (apart (subst (λ (x : ℤ). Holds (pos 10125) x c.at-2.result t) (sym c.at.ensures)
-    (subst (λ (y : ℤ). Holds (pos 10125) (point_of w.east c.args.col) y t) (sym c.at-2.ensures) has.1)))
+    absurd (apart (subst (λ (x : ℤ). TriangleHolds (pos 10125) x c.at-2.result t) (sym c.at.ensures)
+    (subst (λ (y : ℤ). TriangleHolds (pos 10125) (point_of w.east c.args.col) y t) (sym c.at-2.ensures) has.1)))
 
 pub loop-row-init : goal.loop-row-init
 loop-row-init g c =

@@ -1,7 +1,7 @@
 -- Six crossings more, or fewer.
 use Rattle.std.proofs.Common.{List, ◌++◌, ◌∷◌, [], subst}
 use Rattle.mesh_query.specs.Found.{at_place}
-use Rattle.mesh_query.specs.Added.{Side, side, AreCrossings}
+use Rattle.mesh_query.specs.Added.{DirectedSide, side, AreCrossings}
 use Rattle.mesh_query.proofs.Adding.{six_more}
 use Rattle.mesh_query.proofs.collect.add_sides.Goals as goal
 
@@ -11,7 +11,7 @@ returns c =
     let one = side t.a t.b in let two = side t.b t.a in let three = side t.b t.c in let four = side t.c t.b in
     let five = side t.c t.a in let six = side t.a t.c in
     λ sides h.
-    subst (λ (xs : List Side). AreCrossings (at_place c.args.from.now) (at_place c.args.to.now) xs
+    subst (λ (xs : List DirectedSide). AreCrossings (at_place c.args.from.now) (at_place c.args.to.now) xs
     c.add_crossing-6.new.found.items)
     (six_more sides one two three four five six)
     (c.in_ok-add_crossing-6.ensures (((((sides ++ one ∷ []) ++ two ∷ []) ++ three ∷ []) ++ four ∷ []) ++ five ∷ [])

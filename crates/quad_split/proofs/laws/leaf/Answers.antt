@@ -1,5 +1,5 @@
 use Rattle.mesh_plane.specs.Triangles.{tri_of}
-use Rattle.quad_split.specs.Fan.{corner_of}
+use Rattle.quad_split.specs.Fan.{grid_corner}
 use Rattle.quad_split.specs.Fits.{Follows}
 use Rattle.quad_split.proofs.Meanings.{fit_test}
 use Rattle.quad_split.proofs.Fairness.{unsplit_fits}
@@ -10,6 +10,6 @@ pub returns : goal.returns
 returns c = record {
   fits = λ grid tol k x y n e. (fit_test grid tol k x y).0 (unsplit_fits grid tol k x y n e);
   triangles = λ grid tol k x y m n e.
-      leaf_triangles (λ t. Follows grid tol (tri_of t)) (corner_of grid) k x y m
+      leaf_triangles (λ t. Follows grid tol (tri_of t)) (grid_corner grid) k x y m
       ((fit_test grid tol k x y).0 (unsplit_fits grid tol k x y n e));
 }

@@ -1,7 +1,7 @@
 use Rattle.std.proofs.Common.{◌∙◌, ◌<◌, Some, ap, sym, subst, arith, FitsSigned, w16}
 use Rattle.std.proofs.lemmas.Int.{to_z-of_z}
 use Rattle.terrain_base.specs.declared.post.Post.{Post}
-use Rattle.cell_mosaic.specs.Cells.{IsPost}
+use Rattle.dted_cell.specs.Elevation.{IsPost}
 use Rattle.cell_mosaic.proofs.Sums.{height_fits}
 use Rattle.resample.specs.Height.{height_or}
 use Rattle.resample.proofs.Lines.{one_on_lines, height_of_one}

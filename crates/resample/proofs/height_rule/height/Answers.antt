@@ -1,6 +1,6 @@
 use Rattle.std.proofs.Common.{subst, sym, ◌∙◌, arith, FitsSigned, w16}
 use Rattle.std.proofs.lemmas.Int.{to_z-of_z}
-use Rattle.cell_mosaic.specs.Cells.{IsPost}
+use Rattle.dted_cell.specs.Elevation.{IsPost}
 use Rattle.cell_mosaic.proofs.Sums.{height_fits}
 use Rattle.cell_mosaic.proofs.Keeping.{told_next}
 use Rattle.resample.proofs.Firsts.{height_found, height_filled}

@@ -1,7 +1,7 @@
 use Rattle.std.proofs.Common.{◌∙◌, Some, ap, sym, subst, refl, FitsSigned, w16}
 use Rattle.std.proofs.lemmas.Int.{to_z-of_z}
 use Rattle.terrain_base.specs.declared.post.Post.TheVariants.{Void}
-use Rattle.cell_mosaic.specs.Cells.{IsPost}
+use Rattle.dted_cell.specs.Elevation.{IsPost}
 use Rattle.cell_mosaic.proofs.Sums.{height_fits}
 use Rattle.cell_mosaic.proofs.Keeping.{told_next}
 use Rattle.cell_mosaic.proofs.Values.{void_finest}

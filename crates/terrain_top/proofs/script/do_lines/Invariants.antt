@@ -2,7 +2,7 @@ use Rattle.std.proofs.Common.{◌≡◌, ◌≤◌, ◌+◌, true, Some, map, ta
 use Rattle.terrain_base.specs.Library.{LibraryFiles}
 use Rattle.top_words.specs.Meant.{line_meant}
 use Rattle.database.specs.State.{State}
-use Rattle.db_engine.specs.Holding.{Holds}
+use Rattle.db_engine.specs.Holding.{HoldsState}
 use Rattle.top_reply.specs.Course.{world}
 use Rattle.top_reply.specs.Lines.{commands_of}
 use Rattle.terrain_top.specs.LinesGo.{LinesDone}
@@ -10,7 +10,7 @@ use Rattle.terrain_top.proofs.script.do_lines.Given as goal
 
 abbrev pub invariant-loop-i : goal.invariant-loop-i
 invariant-loop-i g l =
-    ((s : State) (library : LibraryFiles) → Holds (g.St.Store.holds l.fn.store) l.fn.opened s
+    ((s : State) (library : LibraryFiles) → HoldsState (g.St.Store.holds l.fn.store) l.fn.opened s
     → g.Li.Library.holds l.fn.files ≡ Some library
     → LinesDone library (commands_of 1 (map line_meant (take l.i l.lines))) s
     (world (g.St.Store.holds l.fn.store) (g.St.Store.log l.fn.store) (g.Si.Sink.taken l.fn.out) l.fn.work)

@@ -1,6 +1,6 @@
 use Rattle.std.proofs.Common.{◌∙◌, ap}
 use Rattle.mesh_codec.specs.Mesh.{Mesh}
-use Rattle.tile_mesh.specs.declared.side.Side.TheVariants.{West, South, East, North}
+use Rattle.terrain_base.specs.declared.side.Side.TheVariants.{West, South, East, North}
 use Rattle.tile_bytes.proofs.Edges.{in_range, room}
 use Rattle.tile_bytes.proofs.coded_mesh.coded_mesh.Goals as goal
 

@@ -5,7 +5,7 @@ use Rattle.quad_split.specs.Split.{is_split}
 use Rattle.quad_split.specs.SplitMap.{bit_at}
 use Rattle.tile_mesh.specs.Mesh.{Mesh, mesh_on, mesh_from, kept_on, mesh_of_grid}
 use Rattle.mesh_plane.specs.Cover.{Covers}
-use Rattle.tile_mesh.specs.declared.side.Side.{Side}
+use Rattle.terrain_base.specs.declared.side.Side.{Side}
 use Rattle.tile_mesh.specs.Plane.{edge_vertices, kept_vertices, triangles_in}
 use Rattle.tile_mesh.specs.Rule.{triangles_of}
 use Rattle.tile_mesh.specs.Tolerance.{KeepsTolerance}

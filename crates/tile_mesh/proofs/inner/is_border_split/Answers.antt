@@ -1,6 +1,6 @@
 use Rattle.std.proofs.Common.{◌∙◌, ap, sym}
 use Rattle.quad_split.specs.SplitMap.{bit_at}
-use Rattle.tile_mesh.specs.declared.side.Side.{Side}
+use Rattle.terrain_base.specs.declared.side.Side.{Side}
 use Rattle.tile_mesh.specs.Rule.{border_split}
 use Rattle.tile_mesh.proofs.InnerLists.{last_is}
 use Rattle.tile_mesh.proofs.inner.is_border_split.Goals as goal

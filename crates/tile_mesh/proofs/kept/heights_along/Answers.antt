@@ -17,6 +17,6 @@ loop-index-preserved c =
       l,
       heights_step (λ i. (vertex_at c.args.grid.now (outer_at c.args.side i)).metres) c.loop-index.heights
           c.loop-index.index 67 (to_z w16 (of_z w16 c.get.result)) c.loop-index-test.true c.loop-index.invariant.0
-          (e ∙ c.get.ensures.value ∙ ap (λ (p : GridPoint). (vertex_at c.args.grid.now p).metres) c.outer-point.ensures.point)
+          (e ∙ c.get.ensures.value ∙ ap (λ (p : GridPoint). (vertex_at c.args.grid.now p).metres) c.outer_point-point.ensures.point)
           ∙ c.loop-index.invariant.1,
     )

@@ -7,7 +7,7 @@ use Rattle.tile_mesh.specs.Numbers.{Adds}
 use Rattle.quad_split.specs.Midpoints.{midpoints_of}
 use Rattle.quad_split.specs.SplitMap.{bit_at}
 use Rattle.tile_mesh.specs.Sides.{grid_point}
-use Rattle.tile_mesh.specs.Squares.{as_midpoints, leaf_at}
+use Rattle.tile_mesh.specs.PlacedNodes.{as_midpoints, leaf_at}
 use Rattle.tile_mesh.proofs.LeafLists.{split_adds, leaf_is}
 use Rattle.tile_mesh.proofs.builder.Builder.+leaves.Goals as goal
 

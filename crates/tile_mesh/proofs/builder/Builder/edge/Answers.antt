@@ -18,5 +18,5 @@ loop-index-preserved c =
     numbers_step h (outer_at c.args.side) c.loop-index.numbers.items c.push_number.new.numbers.items
     c.loop-index.index 67 c.loop-index-test.true
     (c.in_ok-push_number.ensures
-    ∙ ap (λ (p : GridPoint). c.loop-index.numbers.items ++ cons_option (h p) []) c.outer.ensures.point)
+    ∙ ap (λ (p : GridPoint). c.loop-index.numbers.items ++ cons_option (h p) []) c.outer_point.ensures.point)
     ∙ c.loop-index.invariant

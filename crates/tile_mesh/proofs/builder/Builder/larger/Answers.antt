@@ -2,9 +2,9 @@ use Rattle.std.proofs.Common.{List, subst, ◌+◌}
 use Rattle.mesh_plane.specs.Triangles.{Triple}
 use Rattle.tile_mesh.specs.declared.point.GridPoint.{GridPoint}
 use Rattle.tile_mesh.specs.Numbers.{Adds}
-use Rattle.tile_mesh.specs.Squares.{as_midpoints}
+use Rattle.tile_mesh.specs.PlacedNodes.{as_midpoints}
 use Rattle.tile_mesh.specs.Sides.{grid_point}
-use Rattle.tile_mesh.specs.Squares.{ring_at}
+use Rattle.tile_mesh.specs.PlacedNodes.{ring_at}
 use Rattle.tile_mesh.proofs.Steps.{adds_append}
 use Rattle.tile_mesh.proofs.LeafLists.{fan_sides}
 use Rattle.tile_mesh.proofs.builder.Builder.larger.Goals as goal

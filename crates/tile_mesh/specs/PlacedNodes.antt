@@ -1,9 +1,9 @@
--- Nodes of the quadtree by their corners.
+-- Nodes of the quadtree with their places on the grid.
 use Rattle.std.specs.Prelude.{◌≡◌, ℕ, ◌+◌, ◌-◌, ◌*◌, ◌^◌, ◌≤◌, List}
 use Rattle.mesh_plane.specs.Triangles.{Triple, fan}
 use Rattle.mesh_plane.specs.Fan.{Ring, round}
 use Rattle.mesh_plane.specs.Quadtree.{midpoint, Midpoints}
-use Rattle.tile_mesh.specs.declared.leaves.Square.{Square}
+use Rattle.tile_mesh.specs.declared.leaves.PlacedNode.{PlacedNode}
 use Rattle.tile_mesh.specs.declared.leaves.Midpoints as leaf
 use Rattle.tile_mesh.specs.declared.point.GridPoint.{GridPoint}
 use Rattle.tile_mesh.specs.Sides.{grid_point}
@@ -12,7 +12,7 @@ abbrev pub as_midpoints : leaf.Midpoints → Midpoints
 as_midpoints m = record { south = m.south; east = m.east; north = m.north; west = m.west }
 
 -- the corner and the side are those of the place
-pub record IsSquare (s : Square) : Type 0 where
+pub record IsPlacedNode (s : PlacedNode) : Type 0 where
   pub level : s.level ≤ 6
   pub side : s.side ≡ 2 ^ s.level
   pub west : s.i ≡ 1 + s.x * 2 ^ s.level
@@ -20,9 +20,9 @@ pub record IsSquare (s : Square) : Type 0 where
   pub east : s.i + s.side ≤ 65
   pub north : s.j + s.side ≤ 65
 
--- a quarter of a square
-pub record IsQuarter (s : Square) (a b : ℕ) (q : Square) : Type 0 where
-  pub square : IsSquare q
+-- a quarter of a node
+pub record IsQuarter (s : PlacedNode) (a b : ℕ) (q : PlacedNode) : Type 0 where
+  pub node : IsPlacedNode q
   pub level : q.level ≡ s.level - 1
   pub x : q.x ≡ 2 * s.x + a
   pub y : q.y ≡ 2 * s.y + b
