@@ -39,11 +39,11 @@ pub record SurfaceLaw : Type 0 where
       → Surface ts s x y over under ↔ Surface ts (k *ℤ s) (k *ℤ x) (k *ℤ y) over under
   pub between : (t : Tri) (s x y least greatest : ℤ) → AreHeightsWithin least greatest t → TriangleHolds s x y t
       → ((least *ℤ gap_under t s) ≤ℤ lift_of t s x y) × (lift_of t s x y ≤ℤ (greatest *ℤ gap_under t s))
-  pub gap : (ts : List Tri) (t : Tri) (s x y metres n : ℤ) → Covers ts → pos 1 ≤ℤ s → Contains ts t → TriangleHolds s x y t
-      → IsSurfaceNear ts s x y metres n ↔ (gap_over t s x y metres ≤ℤ (n *ℤ gap_under t s))
+  pub gap : (ts : List Tri) (t : Tri) (s x y metres n : ℤ) → Covers ts → pos 1 ≤ℤ s → Contains ts t
+      → TriangleHolds s x y t → IsSurfaceNear ts s x y metres n ↔ (gap_over t s x y metres ≤ℤ (n *ℤ gap_under t s))
   pub straight : (t : Tri) (s d n : ℤ) (p q : Point) → let r = part_of d n p q in
       lift_of t (d *ℤ s) r.u r.v ≡ (d -ℤ n) *ℤ lift_of t s p.u p.v +ℤ n *ℤ lift_of t s q.u q.v
-  pub convex : (t : Tri) (s d n : ℤ) (p q : Point) → pos 0 ≤ℤ n → n ≤ℤ d → TriangleHolds s p.u p.v t → TriangleHolds s q.u q.v t
-      → let r = part_of d n p q in TriangleHolds (d *ℤ s) r.u r.v t
+  pub convex : (t : Tri) (s d n : ℤ) (p q : Point) → pos 0 ≤ℤ n → n ≤ℤ d → TriangleHolds s p.u p.v t
+      → TriangleHolds s q.u q.v t → let r = part_of d n p q in TriangleHolds (d *ℤ s) r.u r.v t
   pub box : (r : Rect) (t : Tri) (s x y : ℤ) → IsCounterClockwise t → IsTriIn r t → TriangleHolds s x y t
       → InRect (grown s r) (point x y)

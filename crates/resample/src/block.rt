@@ -9,7 +9,8 @@ use cell_mosaic::PostSource;
 use terrain_base::{CellLevel, Square, TileId, columns, rows};
 
 /// The grid points of a run of columns and a run of rows of a tile, the square that they lie in, if they lie on no
-/// whole degree, and the finest level of its cells, with the posts that a cell of this level has across and along, or 0.
+/// whole degree, and the finest level of its cells, with the posts that a cell of this level has across and along, or
+/// 0.
 #[derive(Drop)]
 pub(crate) struct Block {
     pub(crate) tile: TileId,

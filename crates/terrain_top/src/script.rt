@@ -226,8 +226,8 @@ pub(crate) fn answer_to_apply<St: Store, Li: Library, Si: Sink>(
     work: &mut Work,
 ) -> Result<Answer, Stop>
     requires { opened.old.live ≡ true }
-    ensures comes { (s : State) (library : LibraryFiles) (course : Course) → HoldsState (St.holds store.old) opened.old s
-        → Li.holds files.old ≡ Some library
+    ensures comes { (s : State) (library : LibraryFiles) (course : Course)
+        → HoldsState (St.holds store.old) opened.old s → Li.holds files.old ≡ Some library
         → IsApplied (found_in script.now script_limit (finmap.get library script.now)) library s course
         → Comes course (world (St.holds store.old) (St.log store.old) (Si.taken out.old) work.old)
         (world (St.holds store.new) (St.log store.new) (Si.taken out.new) work.new) result }

@@ -35,7 +35,9 @@ use top_words::{Command, command_in};
 
 /// What is printed where the words are no command.
 const USAGE: &str =
-    "usage: terrain DIR init CAP FILL | add FILE | replace FILE | remove SQUARE V | apply SCRIPT | rebuild | list | inspect Z X Y | deps Z X Y | cell FILE | audit FILE | check | trial COUNT NUMBER | migrate | convert FILE | heightmap Z X Y | height Z E N | profile Z X Y U1 V1 U2 V2 | sight Z X Y U1 V1 A1 U2 V2 A2 | view Z X Y U V A\n";
+    "usage: terrain DIR init CAP FILL | add FILE | replace FILE | remove SQUARE V | apply SCRIPT | rebuild | list | \
+     inspect Z X Y | deps Z X Y | cell FILE | audit FILE | check | trial COUNT NUMBER | migrate | convert FILE | \
+     heightmap Z X Y | height Z E N | profile Z X Y U1 V1 U2 V2 | sight Z X Y U1 V1 A1 U2 V2 A2 | view Z X Y U V A\n";
 
 // Does a command. Its last text is handed back.
 fn answer_to<St: Store, Li: Library, Si: Sink>(

@@ -19,7 +19,11 @@ point_of place = record { east = 180 * place.p; north = 180 * place.q; parts = p
 -- the place of the tile's grid point in column i and row j, whose grid lines stand at u and v of 32767
 -- (quantized-mesh-1.0, u and v)
 abbrev pub place_of : TileId → ℕ → ℕ → Place
-place_of tile i j = record { p = tile.x * 32767 + line_position i; q = tile.y * 32767 + line_position j; d = 2 ^ tile.z * 32767 }
+place_of tile i j = record {
+  p = tile.x * 32767 + line_position i;
+  q = tile.y * 32767 + line_position j;
+  d = 2 ^ tile.z * 32767;
+}
 
 -- the same numbers, but for a whole turn of longitude
 pub record SamePlace (a b : Place) : Type 0 where

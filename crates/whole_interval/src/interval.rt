@@ -25,7 +25,8 @@ pub fn add(a: &Interval, b: &Interval) -> Interval
     requires b { IsWithin 100 b.now }
     ensures exact { result ≡ add_of a.now b.now }
     ensures ordered { result.lo ≤ℤ result.hi }
-    ensures encloses { (f g : Fraction) → IntervalHolds a.now f → IntervalHolds b.now g → IntervalHolds result (plus f g) }
+    ensures encloses { (f g : Fraction) → IntervalHolds a.now f → IntervalHolds b.now g
+        → IntervalHolds result (plus f g) }
 {
     Interval {
         lo: a.lo + b.lo,
@@ -39,7 +40,8 @@ pub fn sub(a: &Interval, b: &Interval) -> Interval
     requires b { IsWithin 100 b.now }
     ensures exact { result ≡ sub_of a.now b.now }
     ensures ordered { result.lo ≤ℤ result.hi }
-    ensures encloses { (f g : Fraction) → IntervalHolds a.now f → IntervalHolds b.now g → IntervalHolds result (minus f g) }
+    ensures encloses { (f g : Fraction) → IntervalHolds a.now f → IntervalHolds b.now g
+        → IntervalHolds result (minus f g) }
 {
     Interval {
         lo: a.lo - b.hi,
@@ -67,7 +69,8 @@ pub fn mul(a: &Interval, b: &Interval) -> Interval
     requires b { IsWithin 50 b.now }
     ensures exact { result ≡ mul_of a.now b.now }
     ensures ordered { result.lo ≤ℤ result.hi }
-    ensures encloses { (f g : Fraction) → IntervalHolds a.now f → IntervalHolds b.now g → IntervalHolds result (times f g) }
+    ensures encloses { (f g : Fraction) → IntervalHolds a.now f → IntervalHolds b.now g
+        → IntervalHolds result (times f g) }
 {
     let p = a.lo * b.lo;
     let q = a.lo * b.hi;
@@ -146,7 +149,8 @@ pub fn div_pos(a: &Interval, b: &Interval) -> Interval
     requires ordered { b.now.lo ≤ℤ b.now.hi }
     ensures exact { result ≡ div_pos_of a.now b.now }
     ensures ordered { result.lo ≤ℤ result.hi }
-    ensures encloses { (f g : Fraction) → IntervalHolds a.now f → IntervalHolds b.now g → IntervalHolds result (over f g) }
+    ensures encloses { (f g : Fraction) → IntervalHolds a.now f → IntervalHolds b.now g
+        → IntervalHolds result (over f g) }
 {
     Interval {
         lo: quotient_low(a.lo, b),
@@ -191,7 +195,8 @@ pub fn sqrt(a: &Interval) -> Interval
     ensures exact { result ≡ sqrt_of a.now }
     ensures root_up { IsRootUp (unsigned_abs a.now.hi * 2 ^ 48) (unsigned_abs result.hi) }
     ensures ordered { result.lo ≤ℤ result.hi }
-    ensures encloses { (f : Fraction) → pos 0 ≤ℤ f.numerator → IntervalHolds a.now (times f f) → IntervalHolds result f }
+    ensures encloses { (f : Fraction) → pos 0 ≤ℤ f.numerator → IntervalHolds a.now (times f f)
+        → IntervalHolds result f }
 {
     Interval {
         lo: root_low(a.lo),

@@ -27,8 +27,8 @@ fn sum_behind(
 
 #[test]
 fn empty_set(rt: HostRuntime) -> Result<(), Stopped> {
-    let tile =
-        "tile 0/0/0 bytes 254 vertices 9 triangles 12 min 0 max 1 edges 2 2 2 2\nbound 0 tolerance 8192 vertices 9 triangles 12 horizon none\n";
+    let tile = "tile 0/0/0 bytes 254 vertices 9 triangles 12 min 0 max 1 edges 2 2 2 2\n\
+         bound 0 tolerance 8192 vertices 9 triangles 12 horizon none\n";
     let rows = [
         (
             "list",
@@ -62,10 +62,10 @@ fn empty_set(rt: HostRuntime) -> Result<(), Stopped> {
 
 #[test]
 fn one_flat_cell(rt: HostRuntime) -> Result<(), Stopped> {
-    let tile =
-        "tile 9/512/256 bytes 254 vertices 9 triangles 12 min 0 max 1 edges 2 2 2 2\nbound 0 tolerance 16 vertices 9 triangles 12 horizon 257\n";
-    let whole =
-        "tile 0/1/0 bytes 254 vertices 9 triangles 12 min 0 max 1 edges 2 2 2 2\nbound 0 tolerance 8192 vertices 9 triangles 12 horizon none\n";
+    let tile = "tile 9/512/256 bytes 254 vertices 9 triangles 12 min 0 max 1 edges 2 2 2 2\n\
+         bound 0 tolerance 16 vertices 9 triangles 12 horizon 257\n";
+    let whole = "tile 0/1/0 bytes 254 vertices 9 triangles 12 min 0 max 1 edges 2 2 2 2\n\
+         bound 0 tolerance 8192 vertices 9 triangles 12 horizon none\n";
     let rows = [
         NEW,
         ADDED,
@@ -140,10 +140,10 @@ fn antimeridian(rt: HostRuntime) -> Result<(), Stopped> {
         ("west", flat(b"1800000W0100000N", 0)),
         ("east", flat(b"1790000E0100000N", 100)),
     ];
-    let last =
-        "tile 9/1023/285 bytes 450 vertices 23 triangles 26 min 0 max 151 edges 2 9 2 9\nbound 100 tolerance 16 vertices 23 triangles 26 horizon 257\n";
-    let first =
-        "tile 9/0/285 bytes 254 vertices 9 triangles 12 min 0 max 1 edges 2 2 2 2\nbound 100 tolerance 16 vertices 9 triangles 12 horizon 257\n";
+    let last = "tile 9/1023/285 bytes 450 vertices 23 triangles 26 min 0 max 151 edges 2 9 2 9\n\
+         bound 100 tolerance 16 vertices 23 triangles 26 horizon 257\n";
+    let first = "tile 9/0/285 bytes 254 vertices 9 triangles 12 min 0 max 1 edges 2 2 2 2\n\
+         bound 100 tolerance 16 vertices 9 triangles 12 horizon 257\n";
     let rows = [
         NEW,
         ("add west", Status::Done, "added n10w180 tiles 25\n"),
@@ -189,8 +189,8 @@ fn cells_that_disagree(rt: HostRuntime) -> Result<(), Stopped> {
         ("west", flat(b"0010000W0000000N", 0)),
         ("flat", flat(b"0000000E0000000N", 30)),
     ];
-    let tile =
-        "tile 9/511/256 bytes 422 vertices 21 triangles 24 min 0 max 31 edges 2 8 2 8\nbound 30 tolerance 16 vertices 21 triangles 24 horizon 257\n";
+    let tile = "tile 9/511/256 bytes 422 vertices 21 triangles 24 min 0 max 31 edges 2 8 2 8\n\
+         bound 30 tolerance 16 vertices 21 triangles 24 horizon 257\n";
     let rows = [
         NEW,
         ("add west", Status::Done, "added n00w001 tiles 22\n"),
@@ -206,8 +206,8 @@ fn cells_that_disagree(rt: HostRuntime) -> Result<(), Stopped> {
 
 #[test]
 fn a_void_of_a_whole_cell(rt: HostRuntime) -> Result<(), Stopped> {
-    let tile =
-        "tile 9/513/257 bytes 254 vertices 9 triangles 12 min -5 max -4 edges 2 2 2 2\nbound 0 tolerance 16 vertices 9 triangles 12 horizon 257\n";
+    let tile = "tile 9/513/257 bytes 254 vertices 9 triangles 12 min -5 max -4 edges 2 2 2 2\n\
+         bound 0 tolerance 16 vertices 9 triangles 12 horizon 257\n";
     let rows = [
         ("init 9 -5", Status::Done, "created cap 9 fill -5\n"),
         ADDED,
@@ -260,8 +260,8 @@ fn two_levels_in_a_square(rt: HostRuntime) -> Result<(), Stopped> {
     ];
     play(&rt, alloc, &mut store, &mut files, &filled)?;
     assert_eq!(rt; sum_of(&mut store)?, 0x1a008d51f835687a);
-    let tile =
-        "tile 9/512/256 bytes 254 vertices 9 triangles 12 min 5 max 6 edges 2 2 2 2\nbound 5 tolerance 16 vertices 9 triangles 12 horizon 257\n";
+    let tile = "tile 9/512/256 bytes 254 vertices 9 triangles 12 min 5 max 6 edges 2 2 2 2\n\
+         bound 5 tolerance 16 vertices 9 triangles 12 horizon 257\n";
     let finer = [
         ("replace five", Status::Done, "replaced n00e000 tiles 22\n"),
         ("inspect 9 512 256", Status::Done, tile),
@@ -341,11 +341,14 @@ fn a_script(rt: HostRuntime) -> Result<(), Stopped> {
     let mut store = SureStore::new(alloc);
     let mut files = library(alloc, &[("a.dt0", FLAT)])?;
     let lines =
-        b"add a.dt0\nadd a.dt0\nremove n00e000 0\r\n# a note\n\nremove n00e000 0\nadd b.dt0\nadd\nmove a.dt0\n#\xff\nadd a.dt0";
+        b"add a.dt0\nadd a.dt0\nremove n00e000 0\r\n# a note\n\nremove n00e000 0\nadd b.dt0\nadd\nmove a.dt0\n\
+          #\xff\nadd a.dt0";
     files.hold("lines", lines.as_slice())?;
     files.hold("none", b"")?;
-    let said =
-        "line 1: added n00e000 tiles 22\nline 2: refused K1 cell present n00e000 level 0\nline 3: removed n00e000 tiles 2\nline 6: refused K2 cell absent n00e000 level 0\nline 7: refused F1 absent b.dt0\nline 8: refused F3 not a command\nline 9: refused F3 not a command\nline 10: refused F3 not a command\nline 11: added n00e000 tiles 22\nscript done 3 refused 6\n";
+    let said = "line 1: added n00e000 tiles 22\nline 2: refused K1 cell present n00e000 level 0\n\
+         line 3: removed n00e000 tiles 2\nline 6: refused K2 cell absent n00e000 level 0\n\
+         line 7: refused F1 absent b.dt0\nline 8: refused F3 not a command\nline 9: refused F3 not a command\n\
+         line 10: refused F3 not a command\nline 11: added n00e000 tiles 22\nscript done 3 refused 6\n";
     let rows = [
         NEW,
         ("apply lines", Status::Refused, said),
@@ -359,8 +362,8 @@ fn a_script(rt: HostRuntime) -> Result<(), Stopped> {
 // A database of few levels.
 #[test]
 fn a_database_is_made_asked_and_changed(rt: HostRuntime) -> Result<(), Stopped> {
-    let tile =
-        "tile 3/8/4 bytes 254 vertices 9 triangles 12 min 0 max 1 edges 2 2 2 2\nbound 0 tolerance 1024 vertices 9 triangles 12 horizon 277\n";
+    let tile = "tile 3/8/4 bytes 254 vertices 9 triangles 12 min 0 max 1 edges 2 2 2 2\n\
+         bound 0 tolerance 1024 vertices 9 triangles 12 horizon 277\n";
     let rows = [
         ("init 3 0", Status::Done, "created cap 3 fill 0\n"),
         ("add flat", Status::Done, "added n00e000 tiles 5\n"),

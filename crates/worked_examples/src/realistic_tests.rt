@@ -14,7 +14,8 @@ fn a_realistic_cell(rt: HostRuntime) -> Result<(), Stopped> {
     let mut files = SureLibrary::new(alloc);
     files.hold("hills", &generate(alloc, 9, square, CellLevel::One)?)?;
     let tile =
-        "tile 12/4266/3106 bytes 10668 vertices 592 triangles 1158 min 706 max 1763 edges 7 8 5 8\nbound 3 tolerance 2 vertices 592 triangles 1158 horizon 257\n";
+        "tile 12/4266/3106 bytes 10668 vertices 592 triangles 1158 min 706 max 1763 edges 7 8 5 8\n\
+         bound 3 tolerance 2 vertices 592 triangles 1158 horizon 257\n";
     let rows = [
         ("init 12 0", Status::Done, "created cap 12 fill 0\n"),
         ("add hills", Status::Done, "added n46e007 tiles 815\n"),

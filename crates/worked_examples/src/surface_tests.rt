@@ -39,7 +39,8 @@ fn a_flat_surface(rt: HostRuntime) -> Result<(), Stopped> {
     let alloc = rt.alloc();
     let mut store = one_cell(&rt, alloc, 7)?;
     let profile =
-        "profile 9/512/256 points 5\n0/1 height 7/1\n16/1057 height 7/1\n16383/32767 height 7/1\n4610/4681 height 7/1\n1/1 height 7/1\n";
+        "profile 9/512/256 points 5\n0/1 height 7/1\n16/1057 height 7/1\n16383/32767 height 7/1\n\
+         4610/4681 height 7/1\n1/1 height 7/1\n";
     let blocked = "blocked at 16/1057 triangle 0 ground 7/1 line 7383/1057\n";
     let all = "view 9/512/256 vertices 9 seen 9\n0\n1\n2\n3\n4\n5\n6\n7\n8\n";
     let none = "view 9/512/256 vertices 9 seen 0\n";
