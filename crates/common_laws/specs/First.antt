@@ -1,5 +1,5 @@
--- The first refusal in an order.
-use Rattle.std.specs.Prelude.{◌≡◌, All, IsNone, Bool, List, [], ◌∷◌, ◌++◌, Option, Some, None, if◌then◌else◌}
+-- The first refusal in an order, and the least number that fails.
+use Rattle.std.specs.Prelude.{◌≡◌, ◌<◌, ℕ, All, IsNone, Bool, List, [], ◌∷◌, ◌++◌, Option, Some, None, if◌then◌else◌}
 use Rattle.std.specs.Option.{option_or}
 
 -- a refusal, standing where its condition holds
@@ -16,3 +16,8 @@ first_of (refusal ∷ later) = option_or refusal (first_of later)
 abbrev pub IsFirst : {R : Type 0} → List (Option R) → R → Type 0
 IsFirst {R} refusals refusal =
     (before after : List (Option R)) × (refusals ≡ before ++ Some refusal ∷ after) × All IsNone before
+
+-- each number below this one has the property, and this one has not
+pub record IsLeastFailing (holds : ℕ → Type 0) (number : ℕ) : Type 0 where
+  pub before : (k : ℕ) → k < number → holds k
+  pub here : ¬ (holds number)

@@ -3,19 +3,21 @@ use Rattle.std.proofs.Common.{◌≡◌, ◌≢◌, ℕ, ◌*◌, ◌<◌, ◌�
 use Rattle.std.proofs.Math.Nat.{mod-eq_of_lt}
 use Rattle.std.proofs.lemmas.Bool.{not-false, and_parts, or_parts, eqb-false, ne_eqb}
 use Rattle.std.proofs.lemmas.Bool.Decides.{nat_tests}
+use Rattle.common_laws.specs.First.{first_of}
+use Rattle.common_laws.proofs.First.{first_of_append, neither, not_when}
 use Rattle.terrain_base.specs.declared.square.Square.{Square}
 use Rattle.terrain_base.specs.declared.level.CellLevel.{CellLevel}
 use Rattle.terrain_base.specs.declared.level.CellLevel.TheVariants.{Zero, One, Two}
 use Rattle.terrain_base.specs.Level.{lat_step_of, lon_step_of, rows_of, columns_of}
 use Rattle.dted_cell.specs.Field.{number_at, HasNumber}
 use Rattle.dted_cell.specs.Header.{east, west, north, south, degrees_north, is_whole, square_of, square_at, level_of_interval, level_at, IsHeader, IsLatitude}
-use Rattle.dted_cell.specs.Refusal.{first_of, lattice_conditions, field_conditions, shape_conditions, label_conditions, text_conditions, is_off_degree, has_wrong_spacing, has_wrong_counts}
-use Rattle.dted_cell.proofs.First.{first_of_append, fields_first}
+use Rattle.dted_cell.specs.Refusal.{lattice_conditions, field_conditions, shape_conditions, label_conditions, text_conditions, is_off_degree, has_wrong_spacing, has_wrong_counts}
+use Rattle.dted_cell.proofs.First.{fields_first}
 use Rattle.dted_cell.proofs.Headers.{text_first}
 use Rattle.dted_cell.proofs.Origins.{value_of, found_angle, north_most, longitude_by, latitude_by, by_longitude, by_latitude}
 use Rattle.dted_cell.proofs.RecordLaws.{same_by, by_same}
 use Rattle.dted_cell.proofs.Squares.{square_path}
-use Rattle.dted_cell.proofs.Stands.{neither, not_when, number_is}
+use Rattle.dted_cell.proofs.Numbers.{number_is}
 
 -- ---- the level of an interval
 interval_level : (l : CellLevel) → level_of_interval (10 * lat_step_of l) ≡ Some l

@@ -1,6 +1,8 @@
 -- The header's refusal, by its parts.
 use Rattle.std.proofs.Common.{◌≡◌, ℕ, List, ◌++◌, codes, not, Option, ap, ◌∙◌}
 use Rattle.std.specs.Option.{option_or}
+use Rattle.common_laws.specs.First.{◌when◌, first_of}
+use Rattle.common_laws.proofs.First.{first_of_append}
 use Rattle.terrain_base.specs.declared.square.Square.{Square}
 use Rattle.terrain_base.specs.declared.level.CellLevel.{CellLevel}
 use Rattle.terrain_base.specs.Level.{columns_of, rows_of}
@@ -12,8 +14,7 @@ use Rattle.dted_cell.specs.Lead.{lead_of, text_behind_lead}
 use Rattle.dted_cell.specs.Header.{square_at, level_at}
 use Rattle.dted_cell.specs.Cell.{square_in, level_in, columns_in, rows_in}
 use Rattle.dted_cell.specs.Fields.{SaysHeader}
-use Rattle.dted_cell.specs.Refusal.{◌when◌, first_of, field_conditions, shape_conditions, label_conditions, text_conditions}
-use Rattle.dted_cell.proofs.First.{first_of_append}
+use Rattle.dted_cell.specs.Refusal.{field_conditions, shape_conditions, label_conditions, text_conditions}
 
 pub text_first : (text : List ℕ) → first_of (text_conditions text)
     ≡ option_or (NoUhl when not (spells text 0 (codes "UHL1"))) (option_or (first_of (field_conditions text ++ shape_conditions text)) (first_of (label_conditions text)))

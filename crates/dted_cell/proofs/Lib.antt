@@ -17,6 +17,5 @@ pub mod Records
 pub mod Rows
 pub mod Shapes
 pub mod Squares
-pub mod Stands
 pub mod Views
 pub mod WholeCells

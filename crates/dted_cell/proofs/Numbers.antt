@@ -1,5 +1,5 @@
 -- A number field, by its parts.
-use Rattle.std.proofs.Common.{◌≡◌, ℕ, zero, suc, ◌<◌, Bool, true, false, cond, ◌==◌, nat_lt, List, [], ◌∷◌, ◌++◌, length, replicate, Some, None, refl, sym, ap, ◌∙◌, arith}
+use Rattle.std.proofs.Common.{◌≡◌, ℕ, zero, suc, ◌<◌, Bool, true, false, not, cond, ◌==◌, nat_lt, List, [], ◌∷◌, ◌++◌, length, replicate, Option, Some, None, is_some, unwrap_or, refl, sym, ap, ◌∙◌, arith}
 use Rattle.std.proofs.Math.Numerals.{one-add}
 use Rattle.std.proofs.lemmas.Bool.{and_parts, and_from, eqb-true, ltb-true, lt-ltb}
 use Rattle.std.proofs.lemmas.Bool.Decides.{nat_tests}
@@ -48,3 +48,8 @@ number_whole field n (blanks, digits, parts, some, all, is) =
     let digits_all = list_all-from_AllPass is_ascii_digit digits all in
     let behind : after_blanks field ≡ digits = ap after_blanks parts ∙ behind_blanks blanks digits (no_blank digits some digits_all) in
     rw (behind, and_from _ _ (lt-ltb 0 (length digits) some) digits_all) (ap Some (sym is))
+
+-- a field that has a number
+pub number_is : (o : Option ℕ) → not (is_some o) ≡ false → o ≡ Some (unwrap_or o 0)
+number_is None e = cc
+number_is (Some n) e = refl

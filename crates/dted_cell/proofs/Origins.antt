@@ -2,10 +2,12 @@
 use Rattle.std.proofs.Common.{◌≡◌, ℕ, ◌+◌, ◌-◌, ◌%◌, ◌<◌, ◌≤◌, ◌⊎◌, true, ◌==◌, ◌||◌, List, slice_index, is_some, unwrap_or, Option, Some, None, refl, sym, ap, ◌∙◌, inl, inr, arith}
 use Rattle.std.proofs.Math.Nat.{mod-eq_of_lt}
 use Rattle.std.proofs.lemmas.Bool.{not-false, and_parts, or_cases, eqb-true, leb-true, le-leb}
+use Rattle.common_laws.specs.First.{first_of}
+use Rattle.common_laws.proofs.First.{neither, not_when}
 use Rattle.dted_cell.specs.Field.{number_at, is_number, HasNumber}
 use Rattle.dted_cell.specs.Header.{east, west, north, south, degrees_east, degrees_north, is_whole, IsAngle, IsLongitude, IsLatitude}
-use Rattle.dted_cell.specs.Refusal.{first_of, angle_conditions}
-use Rattle.dted_cell.proofs.Stands.{neither, not_when, number_is}
+use Rattle.dted_cell.specs.Refusal.{angle_conditions}
+use Rattle.dted_cell.proofs.Numbers.{number_is}
 
 -- ---- a number field
 pub value_of : (o : Option ℕ) (n : ℕ) → o ≡ Some n → unwrap_or o 0 ≡ n

@@ -2,6 +2,8 @@
 use Rattle.std.proofs.Common.{◌≡◌, ◌≢◌, ℕ, ◌*◌, ◌==◌, Bool, true, false, not, cond, ◌&&◌, ◌||◌, List, ◌++◌, Some, None, refl, sym, ap, ◌∙◌, arith}
 use Rattle.std.proofs.lemmas.Bool.Decides.{nat_tests}
 use Rattle.std.specs.Option.{option_or}
+use Rattle.common_laws.specs.First.{first_of}
+use Rattle.common_laws.proofs.First.{first_of_append}
 use Rattle.terrain_base.specs.declared.square.Square.{Square}
 use Rattle.terrain_base.specs.declared.level.CellLevel.{CellLevel}
 use Rattle.terrain_base.specs.Level.{lon_step_of, rows_of, columns_of}
@@ -10,8 +12,7 @@ use Rattle.dted_cell.specs.declared.fields.Fields.{Fields}
 use Rattle.dted_cell.specs.Field.{number_at}
 use Rattle.dted_cell.specs.Fields.{SaysFields}
 use Rattle.dted_cell.specs.Header.{square_of, square_at, level_of_interval, level_at}
-use Rattle.dted_cell.specs.Refusal.{first_of, field_conditions, shape_conditions, is_off_degree, has_wrong_spacing, has_wrong_counts}
-use Rattle.dted_cell.proofs.First.{first_of_append}
+use Rattle.dted_cell.specs.Refusal.{field_conditions, shape_conditions, is_off_degree, has_wrong_spacing, has_wrong_counts}
 
 -- ---- tests
 none_if : (b : Bool) (s : Square) → None ≡ cond b None (Some s) → b ≡ true

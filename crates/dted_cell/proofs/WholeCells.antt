@@ -1,9 +1,9 @@
 -- A file without a refusal is a cell, and the other way round.
-use Rattle.std.proofs.Common.{◌≡◌, ℕ, zero, suc, ◌+◌, ◌<◌, ◌≤◌, false, List, [], ◌∷◌, ◌++◌, length, get_or, Option, Some, None, IsNone, is_some, IsOk, OnOk, ◌↔◌, Result, Ok, Err, refl, sym, ap, ◌∙◌, subst, arith, length-drop}
+use Rattle.std.proofs.Common.{◌≡◌, ℕ, ◌+◌, ◌<◌, ◌≤◌, false, List, [], length, get_or, Some, None, IsOk, OnOk, ◌↔◌, Result, Ok, Err, refl, sym, ap, ◌∙◌, subst, arith, length-drop}
 use Rattle.std.proofs.lemmas.Bool.{ltb-false, le-ltb}
 use Rattle.std.proofs.lemmas.List.FromFn.{length-map-range_with_len, get_or-map-range_with_len, fill_by_all}
-use Rattle.std.specs.List.{All}
 use Rattle.std.specs.Result.{result_err}
+use Rattle.common_laws.proofs.First.{neither, not_when, none_of_flat, none_by_flat}
 use Rattle.terrain_base.specs.declared.square.Square.{Square}
 use Rattle.terrain_base.specs.declared.level.CellLevel.{CellLevel}
 use Rattle.terrain_base.specs.declared.post.Post.{Post}
@@ -11,12 +11,11 @@ use Rattle.terrain_base.specs.declared.post.Post.TheVariants.{Void}
 use Rattle.dted_cell.specs.declared.refusal.CellRefusal.{CellRefusal}
 use Rattle.dted_cell.specs.Lead.{lead_of, text_behind_lead}
 use Rattle.dted_cell.specs.Record.{record_at}
-use Rattle.dted_cell.specs.Refusal.{first_of, IsFirst, is_shorter, header_conditions, record_conditions, data_conditions, refusal_of}
+use Rattle.dted_cell.specs.Refusal.{is_shorter, header_conditions, record_conditions, data_conditions, refusal_of}
 use Rattle.dted_cell.specs.Cell.{HasPosts, IsCell, IsSomeCell, square_in, level_in, columns_in, rows_in, post_in, column_in, posts_in}
 use Rattle.dted_cell.proofs.Cells.{refusal_parts}
 use Rattle.dted_cell.proofs.HeaderLaws.{header_by, by_header, square_here, by_level}
 use Rattle.dted_cell.proofs.RecordLaws.{record_by, by_record}
-use Rattle.dted_cell.proofs.Stands.{neither, not_when, none_of_all, none_by_flat}
 
 -- ---- lengths
 long_by : (bytes : List ℕ) (n : ℕ) → is_shorter bytes n ≡ false → n ≤ length (text_behind_lead bytes)
@@ -55,7 +54,7 @@ cell_by bytes e =
     record {
       header = header_by (text_behind_lead bytes) header.1;
       long_enough = long_by bytes (record_at (rows_in bytes) (columns_in bytes)) (not_when _ _ tail.0);
-      records = λ col h. record_by (text_behind_lead bytes) (rows_in bytes) col (none_of_all (record_conditions (text_behind_lead bytes) (rows_in bytes)) (columns_in bytes) col tail.1 h);
+      records = λ col h. record_by (text_behind_lead bytes) (rows_in bytes) col (none_of_flat (record_conditions (text_behind_lead bytes) (rows_in bytes)) (columns_in bytes) col tail.1 h);
       at_places = posts_there bytes;
     }
 
@@ -66,7 +65,7 @@ here bytes posts cell =
     let header_long : is_shorter bytes 3428 ≡ false = by_long bytes 3428 (omega arith) (omega arith) in
     let data_long : is_shorter bytes (record_at (rows_in bytes) (columns_in bytes)) ≡ false = by_long bytes _ long (omega arith) in
     refusal_parts bytes ∙ rw (header_long, by_header (text_behind_lead bytes) (square_in bytes) (level_in bytes) cell.header, data_long)
-    (none_by_flat (record_conditions (text_behind_lead bytes) (rows_in bytes)) 0 (columns_in bytes) (λ col l u. by_record (text_behind_lead bytes) (rows_in bytes) col (cell.records col (omega arith))))
+    (none_by_flat (record_conditions (text_behind_lead bytes) (rows_in bytes)) (columns_in bytes) (λ col u. by_record (text_behind_lead bytes) (rows_in bytes) col (cell.records col u)))
 
 posts_here : (bytes : List ℕ) (posts : List (List Post)) → IsCell bytes (square_in bytes) (level_in bytes) posts → posts ≡ posts_in bytes
 unfolding columns_in rows_in
@@ -86,29 +85,6 @@ by_cell bytes square level posts cell =
     let level_is : level ≡ level_in bytes = by_level (text_behind_lead bytes) square level cell.header in
     let moved = subst (λ l. IsCell bytes (square_in bytes) l posts) level_is (subst (λ s. IsCell bytes s level posts) square_is cell) in
     record { accepted = here bytes posts moved; square_is = square_is; level_is = level_is; posts_are = posts_here bytes posts moved }
-
--- ---- the first refusal
-none_before : (c : Option CellRefusal) (cs : List (Option CellRefusal)) → c ≡ None → All IsNone cs → All IsNone (c ∷ cs)
-none_before c cs e all zero d h = ap is_some e
-none_before c cs e all (suc k) d h = all k d (omega arith)
-
-pub first_found : (cs : List (Option CellRefusal)) (e : CellRefusal) → first_of cs ≡ Some e → IsFirst cs e
-first_found [] e h = cc
-first_found (None ∷ cs) e h =
-    let later = first_found cs e h in
-    (None ∷ later.0, later.1, ap (λ l. None ∷ l) later.2, none_before None later.0 refl later.3)
-first_found (Some x ∷ cs) e h = ([], cs, ap (λ c. c ∷ cs) h, λ k d l. absurd (omega arith))
-
-none_is : (c : Option CellRefusal) → is_some c ≡ false → c ≡ None
-none_is None e = refl
-none_is (Some x) e = cc
-
-past : (before : List (Option CellRefusal)) (rest : List (Option CellRefusal)) → All IsNone before → first_of (before ++ rest) ≡ first_of rest
-past [] rest all = refl
-past (c ∷ cs) rest all = let head = none_is c (all 0 None (omega arith)) in rw head (past cs rest (λ k d l. all (suc k) d (omega arith)))
-
-pub first_only : (cs : List (Option CellRefusal)) (e : CellRefusal) → IsFirst cs e → first_of cs ≡ Some e
-first_only cs e (before, after, parts, all) = ap first_of parts ∙ past before (Some e ∷ after) all
 
 -- ---- a call that answers by the refusal
 pub some_cell : (bytes : List ℕ) → refusal_of bytes ≡ None → IsSomeCell bytes

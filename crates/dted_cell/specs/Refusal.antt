@@ -1,9 +1,6 @@
 -- Which refusal a file gets: the first whose condition holds, in the order below.
 use Rattle.std.specs.Prelude.{
-  ◌≡◌,
   ℕ,
-  All,
-  IsNone,
   ◌+◌,
   ◌*◌,
   ◌==◌,
@@ -23,13 +20,10 @@ use Rattle.std.specs.Prelude.{
   codes,
   slice_index,
   Option,
-  Some,
-  None,
   is_some,
-  if◌then◌else◌,
 }
 use Rattle.std.specs.List.{range_with_len}
-use Rattle.std.specs.Option.{option_or}
+use Rattle.common_laws.specs.First.{◌when◌, first_of}
 use Rattle.terrain_base.specs.Level.{lon_step_of, rows_of, columns_of}
 use Rattle.dted_cell.specs.declared.refusal.CellRefusal.{CellRefusal}
 use Rattle.dted_cell.specs.declared.refusal.CellRefusal.TheVariants.{
@@ -65,21 +59,6 @@ use Rattle.dted_cell.specs.Header.{
 }
 use Rattle.dted_cell.specs.Cell.{columns_in, rows_in}
 use Rattle.dted_cell.specs.Record.{record_at, elevation_at, longitude_count, stated_sum, plain_sum}
-
--- a refusal, standing where its condition holds
-infix 5 ◌when◌
-abbrev pub ◌when◌ : CellRefusal → Bool → Option CellRefusal
-refusal when holds = if holds then Some refusal else None
-
--- the first that stands
-abbrev pub first_of : List (Option CellRefusal) → Option CellRefusal
-first_of [] = None
-first_of (refusal ∷ later) = option_or refusal (first_of later)
-
--- a refusal stands in the list, and none before it
-abbrev pub IsFirst : List (Option CellRefusal) → CellRefusal → Type 0
-IsFirst refusals refusal =
-    (before after : List (Option CellRefusal)) × (refusals ≡ before ++ Some refusal ∷ after) × All IsNone before
 
 -- ---- the header's conditions
 

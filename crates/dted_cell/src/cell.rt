@@ -1,11 +1,12 @@
 // A whole file.
 ghost use Rattle.std.specs.Prelude.{◌≡◌, ◌+◌, ◌≤◌, length, IfOk};
 ghost use Rattle.std.specs.Result.{result_err};
+ghost use Rattle.common_laws.specs.First.{first_of};
 ghost use Rattle.dted_cell.specs.Fields.{SaysHeader};
 ghost use Rattle.dted_cell.specs.Counts.{IsCounted};
 ghost use Rattle.dted_cell.specs.Good.{IsGood};
 ghost use Rattle.dted_cell.specs.Record.{record_at};
-ghost use Rattle.dted_cell.specs.Refusal.{first_of, data_conditions, refusal_of};
+ghost use Rattle.dted_cell.specs.Refusal.{data_conditions, refusal_of};
 
 use crate::CellRefusal;
 use crate::counts::Counts;

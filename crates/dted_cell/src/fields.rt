@@ -1,15 +1,10 @@
 // The fields of a cell's header: the origin, the intervals and the counts.
 ghost use Rattle.std.specs.Prelude.{◌≡◌, ◌+◌, ◌-◌, ◌*◌, ◌≤◌, length, not, if◌then◌else◌, IfOk};
 ghost use Rattle.std.specs.Result.{result_err};
+ghost use Rattle.common_laws.specs.First.{◌when◌, first_of};
 ghost use Rattle.dted_cell.specs.Field.{number_at, is_number};
 ghost use Rattle.dted_cell.specs.Fields.{SaysAngle, SaysLattice, SaysFields};
-ghost use Rattle.dted_cell.specs.Refusal.{
-  ◌when◌,
-  first_of,
-  angle_conditions,
-  lattice_conditions,
-  field_conditions,
-};
+ghost use Rattle.dted_cell.specs.Refusal.{angle_conditions, lattice_conditions, field_conditions};
 
 use crate::CellRefusal;
 use crate::field::number;

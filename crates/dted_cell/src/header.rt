@@ -17,17 +17,11 @@ ghost use Rattle.std.specs.Prelude.{
   IfOk,
 };
 ghost use Rattle.std.specs.Result.{result_err};
+ghost use Rattle.common_laws.specs.First.{first_of};
 ghost use Rattle.terrain_base.specs.Level.{rows_of, columns_of};
 ghost use Rattle.dted_cell.specs.Fields.{SaysHeader};
 ghost use Rattle.dted_cell.specs.Header.{square_of, square_at, level_of_interval, level_at, series_of};
-ghost use Rattle.dted_cell.specs.Refusal.{
-  first_of,
-  field_conditions,
-  shape_conditions,
-  label_conditions,
-  text_conditions,
-  header_conditions,
-};
+ghost use Rattle.dted_cell.specs.Refusal.{field_conditions, shape_conditions, label_conditions, text_conditions, header_conditions};
 
 use crate::CellRefusal;
 use crate::field::has_word;

@@ -1,5 +1,6 @@
 //! What the definitions of a cell say of one another. Each function does nothing: its contract is a law.
 ghost use Rattle.std.specs.Prelude.{◌≡◌, ℕ, ◌*◌, List, None, Some};
+ghost use Rattle.common_laws.specs.First.{IsFirst};
 ghost use Rattle.terrain_base.specs.declared.square.Square.{Square};
 ghost use Rattle.terrain_base.specs.declared.level.CellLevel.{CellLevel};
 ghost use Rattle.terrain_base.specs.declared.post.Post.{Post};
@@ -8,7 +9,7 @@ ghost use Rattle.dted_cell.specs.Cell.{IsCell, IsSomeCell, square_in, level_in, 
 ghost use Rattle.dted_cell.specs.CellLaws.{ExtremesBound, VoidsHaveNone, PostsAreHeights};
 ghost use Rattle.dted_cell.specs.Field.{number_of, IsNumberField};
 ghost use Rattle.dted_cell.specs.Lead.{AreLabels, lead_of};
-ghost use Rattle.dted_cell.specs.Refusal.{IsFirst, conditions_of, refusal_of};
+ghost use Rattle.dted_cell.specs.Refusal.{conditions_of, refusal_of};
 
 /// A file is a cell exactly where it gets no refusal, and then of one square, one level and one list of
 /// posts: those that are read.

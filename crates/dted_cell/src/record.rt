@@ -21,15 +21,11 @@ ghost use Rattle.std.specs.Prelude.{
 };
 ghost use Rattle.std.specs.Result.{result_err};
 ghost use Rattle.std.specs.List.{range_with_len};
+ghost use Rattle.common_laws.specs.First.{◌when◌, first_of};
 ghost use Rattle.dted_cell.specs.Elevation.{signed_of, is_out_of_range};
 ghost use Rattle.dted_cell.specs.Record.{record_at, elevation_at, posts_at, IsRecord};
 ghost use Rattle.dted_cell.specs.Cell.{is_void_post, widened};
-ghost use Rattle.dted_cell.specs.Refusal.{
-  ◌when◌,
-  first_of,
-  height_condition,
-  record_conditions,
-};
+ghost use Rattle.dted_cell.specs.Refusal.{height_condition, record_conditions};
 
 use crate::CellRefusal;
 use crate::counts::{Counts, join};
@@ -64,7 +60,7 @@ fn height_refusal(word: u16, col: u16, row: u16) -> Option<CellRefusal>
 }
 
 // The refusal of the southernmost height of a column that is out of range.
-#[tactic(auto, using(crate::proofs::First::map_next, crate::proofs::First::map_found))]
+#[tactic(auto, using(common_laws::proofs::First::map_next, common_laws::proofs::First::map_found))]
 fn heights_refusal(text: &[u8], rows: u16, col: u16) -> Option<CellRefusal>
     requires { record_at rows (col + 1) ≤ length text.now }
     ensures { result ≡ first_of (map (height_condition text.now rows col) (range_with_len 0 rows)) }
@@ -154,7 +150,7 @@ fn record_counts(text: &[u8], rows: u16, col: u16) -> Result<Counts, CellRefusal
 }
 
 // What the posts of all records are counted to, or the refusal of the westernmost record that is not good.
-#[tactic(auto, using(crate::proofs::First::flat_next, crate::proofs::Columns::sum_next, crate::proofs::Columns::extremes_next))]
+#[tactic(auto, using(common_laws::proofs::First::flat_next, crate::proofs::Columns::sum_next, crate::proofs::Columns::extremes_next))]
 pub(crate) fn records_counts(text: &[u8], columns: u16, rows: u16) -> Result<Counts, CellRefusal>
     requires { record_at rows columns ≤ length text.now }
     ensures refusal { result_err result ≡

@@ -1,5 +1,5 @@
+use Rattle.common_laws.proofs.First.{first_found, first_only}
 use Rattle.dted_cell.specs.Refusal.{conditions_of, refusal_of}
-use Rattle.dted_cell.proofs.WholeCells.{first_found, first_only}
 use Rattle.dted_cell.proofs.laws.first_refusal.Goals as goal
 
 pub returns-clause-found : goal.returns-clause-found

@@ -1,8 +1,8 @@
 use Rattle.std.proofs.Common.{◌≡◌, ◌+◌, ◌*◌, sym, ap, ◌∙◌, arith}
+use Rattle.common_laws.proofs.First.{map_found}
 use Rattle.dted_cell.specs.Field.{word_at}
 use Rattle.dted_cell.specs.Record.{elevation_at}
 use Rattle.dted_cell.specs.Refusal.{height_condition}
-use Rattle.dted_cell.proofs.First.{map_found}
 use Rattle.dted_cell.proofs.record.heights_refusal.Goals as goal
 
 pub returns-in-Some : goal.returns-in-Some

@@ -1,6 +1,7 @@
 use Rattle.std.proofs.Common.{◌≡◌, ◌-◌, map}
 use Rattle.std.specs.List.{range_with_len}
-use Rattle.dted_cell.specs.Refusal.{first_of, height_condition}
+use Rattle.common_laws.specs.First.{first_of}
+use Rattle.dted_cell.specs.Refusal.{height_condition}
 use Rattle.dted_cell.proofs.record.heights_refusal.Given as goal
 
 abbrev pub invariant-loop-row : goal.invariant-loop-row

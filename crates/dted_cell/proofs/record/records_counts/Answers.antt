@@ -1,6 +1,6 @@
 use Rattle.std.proofs.Common.{sym, ◌∙◌, arith}
+use Rattle.common_laws.proofs.First.{flat_found}
 use Rattle.dted_cell.specs.Refusal.{record_conditions}
-use Rattle.dted_cell.proofs.First.{flat_found}
 use Rattle.dted_cell.proofs.record.records_counts.Goals as goal
 
 pub returns-in-Err-clause-refusal : goal.returns-in-Err-clause-refusal

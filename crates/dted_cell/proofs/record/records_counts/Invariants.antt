@@ -1,8 +1,9 @@
 use Rattle.std.proofs.Common.{◌≡◌, ◌-◌, ◌*◌, ◌≤◌, map, None}
 use Rattle.std.specs.List.{flat_map, range_with_len, sum_by, count_by, fold}
+use Rattle.common_laws.specs.First.{first_of}
 use Rattle.dted_cell.specs.Cell.{is_void_post, widened}
 use Rattle.dted_cell.specs.Record.{posts_at}
-use Rattle.dted_cell.specs.Refusal.{first_of, record_conditions}
+use Rattle.dted_cell.specs.Refusal.{record_conditions}
 use Rattle.dted_cell.proofs.record.records_counts.Given as goal
 
 abbrev pub invariant-loop-col : goal.invariant-loop-col
