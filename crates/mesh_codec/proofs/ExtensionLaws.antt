@@ -6,15 +6,16 @@ use Rattle.std.proofs.lemmas.List.{drop_more, drop_all, drop-drop, drop_at, take
 use Rattle.std.proofs.lemmas.List.Elements.{All-cons, All-nil, All-head, All-tail}
 use Rattle.std.proofs.lemmas.Bool.{cases_lt}
 use Rattle.std.proofs.lemmas.Bool.Decides.{nat_tests}
+use Rattle.common_laws.specs.First.{◌when◌, first_of}
+use Rattle.common_laws.proofs.First.{neither}
 use Rattle.byteorder.specs.Endian.{little_bytes}
 use Rattle.mesh_codec.specs.declared.refusal.TileRefusal.{TileRefusal}
 use Rattle.mesh_codec.specs.declared.refusal.TileRefusal.TheVariants.{ExtensionTruncated}
 use Rattle.mesh_codec.specs.Number.{number_at, AreBytes}
 use Rattle.mesh_codec.specs.Extension.{ExtensionData, IsExtension, extension_text, extension_end, extension_at, some_extensions, extensions_from}
-use Rattle.mesh_codec.specs.Refusal.{◌when◌, first_of, some_extension_conditions, extension_conditions}
+use Rattle.mesh_codec.specs.Refusal.{some_extension_conditions, extension_conditions}
 use Rattle.mesh_codec.proofs.Numbers.{number_small, number_here, four_here}
 use Rattle.mesh_codec.proofs.ExtensionSteps.{end_beyond}
-use Rattle.mesh_codec.proofs.Sounds.{or_both}
 
 below : (m n : ℕ) → m < n → nat_lt m n ≡ true
 below m n h = grind (arith, nat_tests)
@@ -55,7 +56,7 @@ text_from (suc n) bytes at are l e = elim (cases_lt at (length bytes)) [
       let end = extension_end bytes at in
       let here = (ExtensionTruncated at when nat_lt (length bytes) end) in
       let opened = ap (λ b. first_of (cond b (here ∷ some_extension_conditions n bytes end) [])) (sym (below at (length bytes) early)) ∙ e in
-      let both = or_both here (first_of (some_extension_conditions n bytes end)) opened in
+      let both = neither here (first_of (some_extension_conditions n bytes end)) opened in
       let fits = fits_by (ExtensionTruncated at) (length bytes) end both.0 in
       let later = text_from n bytes end are (omega (arith, end_beyond bytes at)) both.1 in
       one_text bytes at are early fits ∙ ap (λ r. extension_text (extension_at bytes at) ++ r) later
@@ -75,7 +76,7 @@ each_from (suc n) bytes at are e = elim (cases_lt at (length bytes)) [
       let end = extension_end bytes at in
       let here = (ExtensionTruncated at when nat_lt (length bytes) end) in
       let opened = ap (λ b. first_of (cond b (here ∷ some_extension_conditions n bytes end) [])) (sym (below at (length bytes) early)) ∙ e in
-      let both = or_both here (first_of (some_extension_conditions n bytes end)) opened in
+      let both = neither here (first_of (some_extension_conditions n bytes end)) opened in
       let fits = fits_by (ExtensionTruncated at) (length bytes) end both.0 in
       rw (below at (length bytes) early) (All-cons IsExtension (extension_at bytes at) (some_extensions n bytes end)
       (record { id = are at; few = omega (arith, bytes_length bytes at fits, number_small 4 bytes (at + 1) are) }) (each_from n bytes end are both.1))

@@ -3,9 +3,10 @@ use Rattle.std.proofs.Common.{◌≡◌, ℕ, zero, suc, ◌+◌, ◌-◌, ◌<�
 use Rattle.std.specs.Option.{option_or}
 use Rattle.std.proofs.lemmas.Bool.{cases_lt}
 use Rattle.std.proofs.lemmas.Bool.Decides.{nat_tests}
+use Rattle.common_laws.specs.First.{◌when◌, first_of}
 use Rattle.mesh_codec.specs.declared.refusal.TileRefusal.TheVariants.{ExtensionTruncated}
 use Rattle.mesh_codec.specs.Extension.{extension_end, extension_at, some_extensions, extensions_from}
-use Rattle.mesh_codec.specs.Refusal.{◌when◌, first_of, some_extension_conditions, extension_conditions}
+use Rattle.mesh_codec.specs.Refusal.{some_extension_conditions, extension_conditions}
 
 pub end_beyond : (bytes : List ℕ) (at : ℕ) → at + 5 ≤ extension_end bytes at
 unfolding extension_end

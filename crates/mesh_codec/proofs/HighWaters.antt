@@ -4,11 +4,12 @@ use Rattle.std.proofs.lemmas.Bool.Decides.{nat_tests}
 use Rattle.std.proofs.Math.Nat.{mul-le-mul_left}
 use Rattle.std.specs.List.{range_with_len}
 use Rattle.std.proofs.lemmas.List.Sums.{sum_by_push}
+use Rattle.common_laws.specs.First.{first_of}
+use Rattle.common_laws.proofs.First.{map_next, map_found}
 use Rattle.mesh_codec.specs.declared.refusal.TileRefusal.TheVariants.{IndexOutOfRange}
 use Rattle.mesh_codec.specs.Text.{index_width}
 use Rattle.mesh_codec.specs.HighWater.{entry_at, mark_at, is_no_vertex}
-use Rattle.mesh_codec.specs.Refusal.{first_of, index_condition}
-use Rattle.mesh_codec.proofs.First.{map_next, map_found}
+use Rattle.mesh_codec.specs.Refusal.{index_condition}
 
 range_more : (a n : ℕ) → range_with_len a (suc n) ≡ range_with_len a n ++ (a + n) ∷ []
 range_more a zero = let same : a + 0 ≡ a = omega arith in rw same refl

@@ -3,6 +3,7 @@ use Rattle.std.proofs.Common.{◌≡◌, ℕ, ℤ, pos, negsuc, ◌+ℤ◌, ◌+
 use Rattle.std.specs.List.{range_with_len}
 use Rattle.std.proofs.Math.Nat.{mul-le-mul_left}
 use Rattle.std.proofs.lemmas.Bool.Decides.{nat_tests}
+use Rattle.common_laws.proofs.First.{range_next}
 use Rattle.mesh_codec.specs.declared.refusal.Array.{Array}
 use Rattle.mesh_codec.specs.declared.refusal.Array.TheVariants.{U, V, Height}
 use Rattle.terrain_base.specs.declared.side.Side.{Side}
@@ -15,7 +16,6 @@ use Rattle.mesh_codec.specs.Layout.{vertices_in, triangles_in, array_at, list_en
 use Rattle.mesh_codec.specs.Tile.{vertex_at, triangle_at, vertex_list, triangle_list, edge_list}
 use Rattle.mesh_codec.specs.Good.{IsTile, IsReadTo, IsMarkedTo, IsListRead, AreExtensions}
 use Rattle.mesh_codec.specs.Mesh.{IsVertex, IsTriangle}
-use Rattle.mesh_codec.proofs.First.{range_next}
 use Rattle.mesh_codec.proofs.Lists.{each_of}
 use Rattle.mesh_codec.proofs.Runs.{sum_next, code_is, running_is}
 use Rattle.mesh_codec.proofs.HighWaters.{mark_next}

@@ -4,11 +4,12 @@ use Rattle.std.specs.List.{range_with_len}
 use Rattle.std.proofs.lemmas.List.FromFn.{map-range_with_len_more}
 use Rattle.std.proofs.lemmas.List.Sums.{fold_push}
 use Rattle.std.proofs.lemmas.Bool.Decides.{nat_tests}
+use Rattle.common_laws.specs.First.{first_of}
+use Rattle.common_laws.proofs.First.{map_next, map_found}
 use Rattle.mesh_codec.specs.declared.refusal.Array.{Array}
 use Rattle.mesh_codec.specs.declared.refusal.TileRefusal.TheVariants.{CoordinateOutOfRange}
 use Rattle.mesh_codec.specs.Number.{number_at}
-use Rattle.mesh_codec.specs.Refusal.{first_of, code_condition}
-use Rattle.mesh_codec.proofs.First.{map_next, map_found}
+use Rattle.mesh_codec.specs.Refusal.{code_condition}
 use Rattle.mesh_codec.specs.Difference.{difference, difference_at, sum_before, running_value, to_code}
 
 -- one difference more

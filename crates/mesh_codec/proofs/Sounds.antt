@@ -1,9 +1,10 @@
 -- What holds of bytes that get no refusal, and the other way round.
-use Rattle.std.proofs.Common.{◌≡◌, ℕ, zero, suc, ◌+◌, ◌-◌, ◌*◌, ◌<◌, ◌≤◌, Bool, true, false, not, cond, nat_lt, nat_le, List, length, map, Option, Some, None, is_some, inl, inr, refl, sym, ap, ◌∙◌, arith}
+use Rattle.std.proofs.Common.{◌≡◌, ℕ, ◌+◌, ◌-◌, ◌*◌, ◌<◌, ◌≤◌, Bool, true, false, not, cond, nat_lt, nat_le, List, length, map, Option, Some, None, is_some, refl, sym, ◌∙◌, arith}
 use Rattle.std.specs.List.{range_with_len}
-use Rattle.std.specs.Option.{option_or, option_map}
-use Rattle.std.proofs.lemmas.Bool.{cases_eq}
+use Rattle.std.specs.Option.{option_map}
 use Rattle.std.proofs.lemmas.Bool.Decides.{nat_tests}
+use Rattle.common_laws.specs.First.{first_of}
+use Rattle.common_laws.proofs.First.{neither, none_of_two, not_when, when_not, none_of_map, none_by_map}
 use Rattle.mesh_codec.specs.declared.refusal.TileRefusal.{TileRefusal}
 use Rattle.mesh_codec.specs.declared.refusal.TileRefusal.TheVariants.{Truncated, CoordinateOutOfRange, IndexOutOfRange, EdgeIndexTooLarge, Compressed}
 use Rattle.mesh_codec.specs.declared.refusal.Array.{Array}
@@ -15,7 +16,7 @@ use Rattle.mesh_codec.specs.Text.{index_width, index_data_at}
 use Rattle.mesh_codec.specs.Difference.{running_value, to_code}
 use Rattle.mesh_codec.specs.HighWater.{entry_at, mark_at, is_no_vertex}
 use Rattle.mesh_codec.specs.Layout.{vertices_in, array_at, list_end, west_at, south_at, east_at, north_at, extensions_at, edge_at}
-use Rattle.mesh_codec.specs.Refusal.{◌when◌, first_of, part_condition, code_condition, array_conditions, index_condition, triangle_conditions, entry_condition, edge_conditions, extension_conditions, conditions_of, is_gzip, tile_refusal_of}
+use Rattle.mesh_codec.specs.Refusal.{part_condition, code_condition, array_conditions, index_condition, triangle_conditions, entry_condition, edge_conditions, extension_conditions, conditions_of, is_gzip, tile_refusal_of}
 use Rattle.mesh_codec.specs.Good.{IsTile}
 use Rattle.mesh_codec.proofs.First.{vertex_first, all_first}
 use Rattle.mesh_codec.proofs.Texts.{index_data_beyond}
@@ -43,20 +44,6 @@ pub record Sound (bytes : List ℕ) : Type 0 where
   pub extensions : first_of (extension_conditions bytes (extensions_at bytes)) ≡ None
 
 -- ---- single conditions
-pub or_both : (a b : Option TileRefusal) → option_or a b ≡ None → (a ≡ None) × (b ≡ None)
-or_both None b e = (refl, e)
-or_both (Some x) b e = cc
-
-both_or : (a b : Option TileRefusal) → a ≡ None → b ≡ None → option_or a b ≡ None
-both_or a b p q = rw (p, q) refl
-
-when_none : (r : TileRefusal) (b : Bool) → (r when b) ≡ None → b ≡ false
-when_none r true e = cc
-when_none r false e = refl
-
-none_when : (r : TileRefusal) (b : Bool) → b ≡ false → (r when b) ≡ None
-none_when r b e = rw e refl
-
 not_lower : (m n : ℕ) → nat_lt m n ≡ false → n ≤ m
 not_lower m n e = grind (arith, nat_tests)
 
@@ -77,99 +64,80 @@ true_not : (b : Bool) → b ≡ true → not b ≡ false
 true_not b e = rw e refl
 
 part_fits : (bytes : List ℕ) (at need : ℕ) → part_condition bytes at need ≡ None → at + need ≤ length bytes
-part_fits bytes at need e = not_lower (length bytes) (at + need) (when_none (Truncated at need) (nat_lt (length bytes) (at + need)) e)
+part_fits bytes at need e = not_lower (length bytes) (at + need) (not_when (Truncated at need) (nat_lt (length bytes) (at + need)) e)
 
 fits_part : (bytes : List ℕ) (at need : ℕ) → at + need ≤ length bytes → part_condition bytes at need ≡ None
-fits_part bytes at need h = none_when (Truncated at need) (nat_lt (length bytes) (at + need)) (lower_not (length bytes) (at + need) h)
-
--- ---- at each place
-module _ (f : ℕ → Option TileRefusal) where
-  none_from : (n a : ℕ) → first_of (map f (range_with_len a n)) ≡ None → (k : ℕ) → a ≤ k → k < a + n → f k ≡ None
-  none_from zero a e k l h = absurd (omega arith)
-  none_from (suc n) a e k l h = let b = or_both (f a) (first_of (map f (range_with_len (a + 1) n))) e in elim (cases_eq k a) [
-    | inl same ↦ ap f same ∙ b.0
-    | inr apart ↦ none_from n (a + 1) b.1 k (omega arith) (omega arith)
-  ]
-
-  from_none : (n a : ℕ) → ((k : ℕ) → a ≤ k → k < a + n → f k ≡ None) → first_of (map f (range_with_len a n)) ≡ None
-  from_none zero a h = refl
-  from_none (suc n) a h = both_or (f a) (first_of (map f (range_with_len (a + 1) n))) (h a (omega arith) (omega arith)) (from_none n (a + 1) (λ k l u. h k (omega arith) (omega arith)))
-
-  pub none_each : (n : ℕ) → first_of (map f (range_with_len 0 n)) ≡ None → (k : ℕ) → k < n → f k ≡ None
-  none_each n e k h = none_from n 0 e k (omega arith) (omega arith)
-
-  pub each_none : (n : ℕ) → ((k : ℕ) → k < n → f k ≡ None) → first_of (map f (range_with_len 0 n)) ≡ None
-  each_none n h = from_none n 0 (λ k l u. h k (omega arith))
+fits_part bytes at need h = when_not (Truncated at need) (nat_lt (length bytes) (at + need)) (lower_not (length bytes) (at + need) h)
 
 -- ---- the parts, from no refusal
 array_sound : (bytes : List ℕ) (array : Array) (at count : ℕ) → first_of (array_conditions bytes array at count) ≡ None → ArraySound bytes at count
 unfolding array_conditions
 array_sound bytes array at count e =
-    let b = or_both (part_condition bytes at (2 * count)) (first_of (map (code_condition bytes array at) (range_with_len 0 count))) e in
+    let b = neither (part_condition bytes at (2 * count)) (first_of (map (code_condition bytes array at) (range_with_len 0 count))) e in
     record {
       fits = part_fits bytes at (2 * count) b.0;
-      codes = λ k h. not_true _ (when_none (CoordinateOutOfRange array k) _ (none_each (code_condition bytes array at) count b.1 k h));
+      codes = λ k h. not_true _ (not_when (CoordinateOutOfRange array k) _ (none_of_map (code_condition bytes array at) count k b.1 h));
     }
 
 sound_array : (bytes : List ℕ) (array : Array) (at count : ℕ) → ArraySound bytes at count → first_of (array_conditions bytes array at count) ≡ None
 unfolding array_conditions
-sound_array bytes array at count s = both_or _ _ (fits_part bytes at (2 * count) s.fits)
-    (each_none (code_condition bytes array at) count (λ k h. none_when (CoordinateOutOfRange array k) _ (true_not _ (s.codes k h))))
+sound_array bytes array at count s = none_of_two _ _ (fits_part bytes at (2 * count) s.fits)
+    (none_by_map (code_condition bytes array at) count (λ k h. when_not (CoordinateOutOfRange array k) _ (true_not _ (s.codes k h))))
 
 triangles_sound : (bytes : List ℕ) (vertices at : ℕ) → first_of (triangle_conditions bytes vertices at) ≡ None → TrianglesSound bytes vertices at
 unfolding triangle_conditions
 triangles_sound bytes vertices at e =
     let codes = 3 * number_at 4 bytes at in
-    let b = or_both (part_condition bytes at 4) _ e in
-    let c = or_both (part_condition bytes (at + 4) (index_width vertices * codes)) _ b.1 in
+    let b = neither (part_condition bytes at 4) _ e in
+    let c = neither (part_condition bytes (at + 4) (index_width vertices * codes)) _ b.1 in
     record {
       fits = part_fits bytes (at + 4) (index_width vertices * codes) c.0;
-      indexes = λ k h. when_none (IndexOutOfRange k) _ (none_each (index_condition bytes vertices (at + 4)) codes c.1 k h);
+      indexes = λ k h. not_when (IndexOutOfRange k) _ (none_of_map (index_condition bytes vertices (at + 4)) codes k c.1 h);
     }
 
 sound_triangles : (bytes : List ℕ) (vertices at : ℕ) → TrianglesSound bytes vertices at → first_of (triangle_conditions bytes vertices at) ≡ None
 unfolding triangle_conditions
 sound_triangles bytes vertices at s =
     let codes = 3 * number_at 4 bytes at in
-    both_or _ _ (fits_part bytes at 4 (omega (arith, s.fits)))
-    (both_or _ _ (fits_part bytes (at + 4) (index_width vertices * codes) s.fits)
-    (each_none (index_condition bytes vertices (at + 4)) codes (λ k h. none_when (IndexOutOfRange k) _ (s.indexes k h))))
+    none_of_two _ _ (fits_part bytes at 4 (omega (arith, s.fits)))
+    (none_of_two _ _ (fits_part bytes (at + 4) (index_width vertices * codes) s.fits)
+    (none_by_map (index_condition bytes vertices (at + 4)) codes (λ k h. when_not (IndexOutOfRange k) _ (s.indexes k h))))
 
 list_sound : (bytes : List ℕ) (vertices : ℕ) (edge : Side) (at : ℕ) → first_of (edge_conditions bytes vertices edge at) ≡ None → ListSound bytes vertices at
 unfolding edge_conditions list_end
 list_sound bytes vertices edge at e =
     let count = number_at 4 bytes at in
-    let b = or_both (part_condition bytes at 4) _ e in
-    let c = or_both (part_condition bytes (at + 4) (index_width vertices * count)) _ b.1 in
+    let b = neither (part_condition bytes at 4) _ e in
+    let c = neither (part_condition bytes (at + 4) (index_width vertices * count)) _ b.1 in
     record {
       fits = part_fits bytes (at + 4) (index_width vertices * count) c.0;
-      entries = λ k h. not_reached vertices _ (when_none (EdgeIndexTooLarge edge k) _ (none_each (entry_condition bytes vertices edge (at + 4)) count c.1 k h));
+      entries = λ k h. not_reached vertices _ (not_when (EdgeIndexTooLarge edge k) _ (none_of_map (entry_condition bytes vertices edge (at + 4)) count k c.1 h));
     }
 
 sound_list : (bytes : List ℕ) (vertices : ℕ) (edge : Side) (at : ℕ) → ListSound bytes vertices at → first_of (edge_conditions bytes vertices edge at) ≡ None
 unfolding edge_conditions list_end
 sound_list bytes vertices edge at s =
     let count = number_at 4 bytes at in
-    both_or _ _ (fits_part bytes at 4 (omega (arith, s.fits)))
-    (both_or _ _ (fits_part bytes (at + 4) (index_width vertices * count) s.fits)
-    (each_none (entry_condition bytes vertices edge (at + 4)) count (λ k h. none_when (EdgeIndexTooLarge edge k) _ (reached_not vertices _ (s.entries k h)))))
+    none_of_two _ _ (fits_part bytes at 4 (omega (arith, s.fits)))
+    (none_of_two _ _ (fits_part bytes (at + 4) (index_width vertices * count) s.fits)
+    (none_by_map (entry_condition bytes vertices edge (at + 4)) count (λ k h. when_not (EdgeIndexTooLarge edge k) _ (reached_not vertices _ (s.entries k h)))))
 
 -- ---- the whole
 pub sound : (bytes : List ℕ) → first_of (conditions_of bytes) ≡ None → Sound bytes
 sound bytes none =
     let vertices = vertices_in bytes in
     let e = sym (all_first bytes) ∙ none in
-    let a = or_both _ _ e in
-    let b = or_both _ _ a.1 in
-    let arrays = or_both _ _ b.1 in
-    let us = or_both _ _ (sym (vertex_first bytes vertices) ∙ arrays.0) in
-    let vs = or_both _ _ us.1 in
-    let hs = or_both _ _ vs.1 in
-    let triangles = or_both _ _ arrays.1 in
-    let west = or_both _ _ triangles.1 in
-    let south = or_both _ _ west.1 in
-    let east = or_both _ _ south.1 in
-    let north = or_both _ _ east.1 in
+    let a = neither _ _ e in
+    let b = neither _ _ a.1 in
+    let arrays = neither _ _ b.1 in
+    let us = neither _ _ (sym (vertex_first bytes vertices) ∙ arrays.0) in
+    let vs = neither _ _ us.1 in
+    let hs = neither _ _ vs.1 in
+    let triangles = neither _ _ arrays.1 in
+    let west = neither _ _ triangles.1 in
+    let south = neither _ _ west.1 in
+    let east = neither _ _ south.1 in
+    let north = neither _ _ east.1 in
     record {
       counted = part_fits bytes 88 4 b.0;
       arrays = λ array. elim array as (λ array. ArraySound bytes (array_at vertices array) vertices) [
@@ -191,15 +159,15 @@ pub no_refusal : (bytes : List ℕ) → Sound bytes → first_of (conditions_of 
 no_refusal bytes s =
     let vertices = vertices_in bytes in
     let beyond = index_data_beyond vertices in
-    all_first bytes ∙ both_or _ _ (fits_part bytes 0 88 (omega (arith, s.counted))) (both_or _ _ (fits_part bytes 88 4 s.counted)
-    (both_or _ _ (vertex_first bytes vertices ∙ both_or _ _ (sound_array bytes U 92 vertices (s.arrays U))
-    (both_or _ _ (sound_array bytes V (92 + 2 * vertices) vertices (s.arrays V)) (both_or _ _ (sound_array bytes Height (92 + 4 * vertices) vertices (s.arrays Height))
+    all_first bytes ∙ none_of_two _ _ (fits_part bytes 0 88 (omega (arith, s.counted))) (none_of_two _ _ (fits_part bytes 88 4 s.counted)
+    (none_of_two _ _ (vertex_first bytes vertices ∙ none_of_two _ _ (sound_array bytes U 92 vertices (s.arrays U))
+    (none_of_two _ _ (sound_array bytes V (92 + 2 * vertices) vertices (s.arrays V)) (none_of_two _ _ (sound_array bytes Height (92 + 4 * vertices) vertices (s.arrays Height))
     (fits_part bytes (92 + 6 * vertices) (index_data_at vertices - (92 + 6 * vertices)) (omega (arith, beyond.0, s.triangles.fits))))))
-    (both_or _ _ (sound_triangles bytes vertices (index_data_at vertices) s.triangles)
-    (both_or _ _ (sound_list bytes vertices West (west_at bytes) (s.edges West))
-    (both_or _ _ (sound_list bytes vertices South (south_at bytes) (s.edges South))
-    (both_or _ _ (sound_list bytes vertices East (east_at bytes) (s.edges East))
-    (both_or _ _ (sound_list bytes vertices North (north_at bytes) (s.edges North)) s.extensions)))))))
+    (none_of_two _ _ (sound_triangles bytes vertices (index_data_at vertices) s.triangles)
+    (none_of_two _ _ (sound_list bytes vertices West (west_at bytes) (s.edges West))
+    (none_of_two _ _ (sound_list bytes vertices South (south_at bytes) (s.edges South))
+    (none_of_two _ _ (sound_list bytes vertices East (east_at bytes) (s.edges East))
+    (none_of_two _ _ (sound_list bytes vertices North (north_at bytes) (s.edges North)) s.extensions)))))))
 
 -- gzip makes no tile of what is none
 first_none : (b : Bool) (first : Option TileRefusal) → cond b (option_map (λ (refusal : TileRefusal). Compressed) first) first ≡ None → first ≡ None

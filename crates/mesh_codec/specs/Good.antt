@@ -1,12 +1,13 @@
 -- What is known of bytes that were read, and of iterators over them.
 use Rattle.std.specs.Prelude.{◌≡◌, ℕ, pos, ◌+◌, ◌*◌, ◌≤◌, List, length, None}
+use Rattle.common_laws.specs.First.{first_of}
 use Rattle.mesh_codec.specs.declared.codes.Codes.{Codes}
 use Rattle.mesh_codec.specs.declared.refusal.Array.TheVariants.{U, V, Height}
 use Rattle.mesh_codec.specs.Text.{index_width, index_data_at}
 use Rattle.mesh_codec.specs.Difference.{sum_before}
 use Rattle.mesh_codec.specs.HighWater.{mark_at}
 use Rattle.mesh_codec.specs.Layout.{vertices_in, triangles_in, array_at}
-use Rattle.mesh_codec.specs.Refusal.{tile_refusal_of, first_of, extension_conditions}
+use Rattle.mesh_codec.specs.Refusal.{tile_refusal_of, extension_conditions}
 
 -- the bytes are a tile
 pub record IsTile (bytes : List ℕ) : Type 0 where

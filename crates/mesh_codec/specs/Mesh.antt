@@ -1,6 +1,6 @@
 -- A mesh of codes: the vertices, triangles and edge lists of a tile (quantized-mesh-1.0, vertex data, index
 -- data and edge indices).
-use Rattle.std.specs.Prelude.{◌≢◌, ℕ, ◌+◌, ◌^◌, ◌<◌, ◌≤◌, List, [], ◌∷◌, ◌++◌, length, All}
+use Rattle.std.specs.Prelude.{◌≢◌, ℕ, ◌^◌, ◌<◌, ◌≤◌, List, [], ◌∷◌, ◌++◌, length, All}
 use Rattle.terrain_base.specs.declared.indexes.Indexes.{Indexes}
 use Rattle.terrain_base.specs.FirstUse.{IsByFirstUse, corners}
 use Rattle.mesh_codec.specs.declared.codes.Codes.{Codes}

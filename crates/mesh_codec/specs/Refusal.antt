@@ -1,7 +1,8 @@
 -- Which refusal bytes get: the first whose condition holds, in the order of the bytes.
-use Rattle.std.specs.Prelude.{◌≡◌, ℕ, zero, suc, ◌+◌, ◌-◌, ◌*◌, nat_lt, nat_le, nat_eq, Bool, not, All, IsNone, List, [], ◌∷◌, ◌++◌, length, map, Option, Some, None, is_some, if◌then◌else◌}
+use Rattle.std.specs.Prelude.{ℕ, zero, suc, ◌+◌, ◌-◌, ◌*◌, nat_lt, nat_le, nat_eq, Bool, not, List, [], ◌∷◌, ◌++◌, length, map, Option, is_some, if◌then◌else◌}
 use Rattle.std.specs.List.{range_with_len, starts_with}
-use Rattle.std.specs.Option.{option_or, option_map}
+use Rattle.std.specs.Option.{option_map}
+use Rattle.common_laws.specs.First.{◌when◌, first_of}
 use Rattle.terrain_base.specs.declared.side.Side.{Side}
 use Rattle.terrain_base.specs.declared.side.Side.TheVariants.{West, South, East, North}
 use Rattle.mesh_codec.specs.declared.refusal.Array.{Array}
@@ -14,21 +15,6 @@ use Rattle.mesh_codec.specs.Difference.{running_value, to_code}
 use Rattle.mesh_codec.specs.HighWater.{entry_at, mark_at, is_no_vertex}
 use Rattle.mesh_codec.specs.Extension.{extension_end}
 use Rattle.mesh_codec.specs.Layout.{vertices_in, array_at, west_at, south_at, east_at, north_at, extensions_at}
-
--- a refusal, standing where its condition holds
-infix 5 ◌when◌
-abbrev pub ◌when◌ : TileRefusal → Bool → Option TileRefusal
-refusal when holds = if holds then Some refusal else None
-
--- the first that stands
-abbrev pub first_of : List (Option TileRefusal) → Option TileRefusal
-first_of [] = None
-first_of (refusal ∷ later) = option_or refusal (first_of later)
-
--- a refusal stands in the list, and none before it
-abbrev pub IsFirst : List (Option TileRefusal) → TileRefusal → Type 0
-IsFirst refusals refusal = (before after : List (Option TileRefusal)) × (refusals ≡ before ++ Some refusal ∷ after)
-    × All IsNone before
 
 -- a part of so many bytes, from an offset on, does not fit
 abbrev pub part_condition : List ℕ → ℕ → ℕ → Option TileRefusal

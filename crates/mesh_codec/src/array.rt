@@ -17,9 +17,10 @@ ghost use Rattle.std.specs.Prelude.{
 };
 ghost use Rattle.std.specs.List.{range_with_len};
 ghost use Rattle.std.specs.Result.{result_err};
+ghost use Rattle.common_laws.specs.First.{first_of};
 ghost use Rattle.mesh_codec.specs.Difference.{difference, to_code};
 ghost use Rattle.mesh_codec.specs.Layout.{array_at};
-ghost use Rattle.mesh_codec.specs.Refusal.{first_of, code_condition, array_conditions, vertex_conditions};
+ghost use Rattle.mesh_codec.specs.Refusal.{code_condition, array_conditions, vertex_conditions};
 
 use crate::layout::index_data;
 use crate::number::short;

@@ -1,8 +1,9 @@
 // Extensions, up to the end of a tile.
 ghost use Rattle.std.specs.Prelude.{◌≡◌, ◌+◌, ◌<◌, ◌≤◌, length, nat_lt, None, Some, if◌then◌else◌};
 ghost use Rattle.std.specs.Result.{result_err};
+ghost use Rattle.common_laws.specs.First.{first_of};
 ghost use Rattle.mesh_codec.specs.Extension.{extension_end};
-ghost use Rattle.mesh_codec.specs.Refusal.{first_of, extension_conditions};
+ghost use Rattle.mesh_codec.specs.Refusal.{extension_conditions};
 
 use crate::TileRefusal;
 use crate::number::long;

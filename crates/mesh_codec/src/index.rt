@@ -19,17 +19,12 @@ ghost use Rattle.std.specs.Prelude.{
 };
 ghost use Rattle.std.specs.List.{range_with_len};
 ghost use Rattle.std.specs.Result.{result_err};
+ghost use Rattle.common_laws.specs.First.{first_of};
 ghost use Rattle.mesh_codec.specs.Text.{index_width};
 ghost use Rattle.mesh_codec.specs.Number.{number_at};
 ghost use Rattle.mesh_codec.specs.HighWater.{entry_at, is_no_vertex};
 ghost use Rattle.mesh_codec.specs.Layout.{list_end};
-ghost use Rattle.mesh_codec.specs.Refusal.{
-  first_of,
-  index_condition,
-  triangle_conditions,
-  entry_condition,
-  edge_conditions,
-};
+ghost use Rattle.mesh_codec.specs.Refusal.{index_condition, triangle_conditions, entry_condition, edge_conditions};
 
 use crate::TileRefusal;
 use crate::layout::index_bytes;
@@ -99,7 +94,7 @@ pub(crate) fn read_triangles(bytes: &[u8], vertices: u32, at: usize) -> Result<u
 }
 
 /// Refuses the first index of an edge's list that is no vertex.
-#[tactic(auto, using(crate::proofs::First::map_next, crate::proofs::First::map_found, crate::proofs::HighWaters::entry_within))]
+#[tactic(auto, using(common_laws::proofs::First::map_next, common_laws::proofs::First::map_found, crate::proofs::HighWaters::entry_within))]
 fn read_entries(
     bytes: &[u8],
     vertices: u32,

@@ -1,5 +1,6 @@
 //! What the definitions of a tile say of one another. Each function does nothing: its contract is a law.
 ghost use Rattle.std.specs.Prelude.{◌≡◌, ℕ, List, [], None, Some, true, false};
+ghost use Rattle.common_laws.specs.First.{first_of, IsFirst};
 ghost use Rattle.mesh_codec.specs.declared.header.Header.{Header};
 ghost use Rattle.mesh_codec.specs.declared.refusal.TileRefusal.{TileRefusal};
 ghost use Rattle.mesh_codec.specs.Number.{AreBytes};
@@ -7,7 +8,7 @@ ghost use Rattle.mesh_codec.specs.Mesh.{Mesh, IsMesh, IsEncodable};
 ghost use Rattle.mesh_codec.specs.Text.{IsHeader, tile_text};
 ghost use Rattle.mesh_codec.specs.Extension.{ExtensionData};
 ghost use Rattle.mesh_codec.specs.Padding.{HasZeroPadding};
-ghost use Rattle.mesh_codec.specs.Refusal.{first_of, IsFirst, conditions_of, is_gzip, tile_refusal_of};
+ghost use Rattle.mesh_codec.specs.Refusal.{conditions_of, is_gzip, tile_refusal_of};
 ghost use Rattle.mesh_codec.specs.Tile.{Decodes, header_in, mesh_in, extension_list};
 
 /// Bytes are a tile exactly where they get no refusal, and then of one header, one mesh and one list of

@@ -1,7 +1,8 @@
 // A whole tile, passed over once.
 ghost use Rattle.std.specs.Prelude.{◌≡◌, ◌+◌, ◌^◌, ◌<◌, ◌≤◌, length};
 ghost use Rattle.std.specs.Result.{result_err};
-ghost use Rattle.mesh_codec.specs.Refusal.{first_of, conditions_of, tile_refusal_of};
+ghost use Rattle.common_laws.specs.First.{first_of};
+ghost use Rattle.mesh_codec.specs.Refusal.{conditions_of, tile_refusal_of};
 
 use crate::TileRefusal;
 use crate::array::read_vertices;

@@ -1,7 +1,8 @@
 use Rattle.std.proofs.Common.{◌≡◌, ◌-◌, ◌≤◌, pos, map}
 use Rattle.std.specs.List.{range_with_len}
+use Rattle.common_laws.specs.First.{first_of}
 use Rattle.mesh_codec.specs.Difference.{sum_before}
-use Rattle.mesh_codec.specs.Refusal.{first_of, code_condition}
+use Rattle.mesh_codec.specs.Refusal.{code_condition}
 use Rattle.mesh_codec.proofs.array.read_codes.Given as goal
 
 abbrev pub invariant-loop-k : goal.invariant-loop-k

@@ -1,5 +1,6 @@
 use Rattle.std.proofs.Common.{◌≡◌, ◌≤◌, ◌-◌, length}
-use Rattle.mesh_codec.specs.Refusal.{first_of, extension_conditions}
+use Rattle.common_laws.specs.First.{first_of}
+use Rattle.mesh_codec.specs.Refusal.{extension_conditions}
 use Rattle.mesh_codec.proofs.extension.read_extensions.Given as goal
 
 abbrev pub invariant-loop-at : goal.invariant-loop-at

@@ -1,6 +1,7 @@
 use Rattle.std.proofs.Common.{◌≡◌, ◌-◌, map}
 use Rattle.std.specs.List.{range_with_len}
-use Rattle.mesh_codec.specs.Refusal.{first_of, entry_condition}
+use Rattle.common_laws.specs.First.{first_of}
+use Rattle.mesh_codec.specs.Refusal.{entry_condition}
 use Rattle.mesh_codec.proofs.index.read_entries.Given as goal
 
 abbrev pub invariant-loop-k : goal.invariant-loop-k

@@ -1,8 +1,9 @@
 use Rattle.std.proofs.Common.{◌≡◌, ◌-◌, ◌≤◌, map}
 use Rattle.std.specs.List.{range_with_len}
+use Rattle.common_laws.specs.First.{first_of}
 use Rattle.mesh_codec.specs.Text.{index_width}
 use Rattle.mesh_codec.specs.HighWater.{mark_at}
-use Rattle.mesh_codec.specs.Refusal.{first_of, index_condition}
+use Rattle.mesh_codec.specs.Refusal.{index_condition}
 use Rattle.mesh_codec.proofs.index.read_indexes.Given as goal
 
 abbrev pub invariant-loop-k : goal.invariant-loop-k

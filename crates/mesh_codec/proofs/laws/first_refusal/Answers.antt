@@ -1,5 +1,6 @@
+use Rattle.common_laws.proofs.First.{first_found, first_only}
 use Rattle.mesh_codec.specs.Refusal.{conditions_of}
-use Rattle.mesh_codec.proofs.FirstLaws.{first_found, first_only, plain_by, compressed_by}
+use Rattle.mesh_codec.proofs.FirstLaws.{plain_by, compressed_by}
 use Rattle.mesh_codec.proofs.laws.first_refusal.Goals as goal
 
 pub returns-clause-found : goal.returns-clause-found

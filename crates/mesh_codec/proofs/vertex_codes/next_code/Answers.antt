@@ -1,4 +1,4 @@
-use Rattle.std.proofs.Common.{◌+◌, ◌+ℤ◌, pos, is_some, sym, ap, ◌∙◌}
+use Rattle.std.proofs.Common.{◌+ℤ◌, pos, is_some, sym, ap, ◌∙◌}
 use Rattle.mesh_codec.specs.Difference.{difference, to_code}
 use Rattle.mesh_codec.proofs.Places.{code_fits, code_some, code_here, read_next}
 use Rattle.mesh_codec.proofs.vertex_codes.next_code.Goals as goal
