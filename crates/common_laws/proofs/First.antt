@@ -5,9 +5,7 @@ use Rattle.std.specs.Option.{option_or}
 use Rattle.std.proofs.lemmas.Bool.{cases_eq, cases_order}
 use Rattle.std.proofs.lemmas.List.Elements.{All-cons}
 use Rattle.common_laws.specs.First.{◌when◌, first_of, IsFirst, IsLeastFailing}
-
-pub range_next : (k n : ℕ) → k < n → range_with_len k (n - k) ≡ k ∷ range_with_len (k + 1) (n - (k + 1))
-range_next k n h = let more : n - k ≡ suc (n - (k + 1)) = omega arith in rw more refl
+use Rattle.common_laws.proofs.Lists.{range_next}
 
 -- at most one number is the least that fails
 pub least_failing_once : {holds : ℕ → Type 0} (a b : ℕ) → IsLeastFailing holds a → IsLeastFailing holds b → a ≡ b
