@@ -10,7 +10,7 @@ use Rattle.mesh_plane.specs.declared.corner.Tri.{Tri}
 use Rattle.mesh_plane.specs.Plane.{Point, point, side_of, doubled_area, TriangleHolds}
 use Rattle.mesh_plane.specs.Surface.{lift_of, SameHeight}
 use Rattle.mesh_plane.specs.Triangles.{Triple}
-use Rattle.mesh_plane.specs.Fan.{Rect, InRect, InsideRect}
+use Rattle.mesh_plane.specs.Fan.{InRect, InsideRect}
 use Rattle.mesh_plane.specs.Cover.{OneHeight, Covers}
 use Rattle.mesh_plane.proofs.Turns.{turn, side_scaled}
 use Rattle.mesh_plane.proofs.Tilings.{Tiling, area, Within}

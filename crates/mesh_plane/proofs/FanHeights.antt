@@ -10,19 +10,19 @@ use Rattle.mesh_plane.specs.Plane.{Point}
 use Rattle.terrain_base.specs.declared.side.Side.{Side}
 use Rattle.terrain_base.specs.declared.side.Side.TheVariants.{South, East, North, West}
 use Rattle.mesh_plane.specs.Triangles.{Triple, fan, Outer}
-use Rattle.mesh_plane.specs.Fan.{Rect, InsideRect, Ring, IsRing, Follow, south_of, east_of, north_of, west_of, round}
+use Rattle.mesh_plane.specs.Fan.{Rect, InsideRect, Ring, IsRing, Follow, round}
 use Rattle.mesh_plane.specs.Strip.{across}
-use Rattle.mesh_plane.proofs.Turns.{turn}
-use Rattle.mesh_plane.proofs.Tilings.{IsCcw, Held}
+use Rattle.mesh_plane.proofs.Tilings.{IsCcw, Held, Tiling}
 use Rattle.mesh_plane.proofs.Moves.{shifted}
 use Rattle.mesh_plane.proofs.Sweeps.{sweep, difference}
-use Rattle.mesh_plane.proofs.Lines.{reach, no_reach, follow_moves}
-use Rattle.mesh_plane.proofs.Frames.{south_west_turn, south_east_turn, north_east_turn, north_west_turn}
-use Rattle.mesh_plane.proofs.Rings.{only, fan_is, fan_append, side_tiles}
-use Rattle.mesh_plane.proofs.Heights.{OneLevel, Cross, cross_when, four_levels}
+use Rattle.mesh_plane.proofs.Sides.{next, reach, no_reach, border, inset, gap}
+use Rattle.mesh_plane.proofs.Lines.{follow_moves}
+use Rattle.mesh_plane.proofs.Frames.{SectorOf, OpenSectorOf, gap_above}
+use Rattle.mesh_plane.proofs.Rings.{only, only_start, only_gap, only_inner, fan_is, begins, inside_of, fan_on, fan_sides, begins_at, begins_across, follows, side_tiles}
+use Rattle.mesh_plane.proofs.Heights.{OneLevel, Cross, cross_when, cross_sym, four_levels}
 use Rattle.mesh_plane.proofs.Edges.{On, HasEdge, edge_end, edge_cross, meets_a, meets_b, meets_c}
 use Rattle.mesh_plane.proofs.SweepHeights.{sweep_one, one_moved, shifted_same}
-use Rattle.mesh_plane.proofs.StripHeights.{segment_cross}
+use Rattle.mesh_plane.proofs.SectorHeights.{neighbours}
 
 -- a point that is the point c
 on_point : (c p : Point) → p.u ≡ c.u → p.v ≡ c.v → On c c p (pos 1) (pos 0)
@@ -95,100 +95,60 @@ module _ {A : Type 0} (at : A → Point) (z : A → ℤ) where
       edge_cross at z c c p (pos 1) (pos 0) ts us (on_point (at c) p o.0 o.1) (edge_end at z e c ts h)
       (edge_end at z f c us k) one two)
 
+  module _ (r : Rect) (c : A) (g : Ring A) (i : InsideRect r (at c)) (ring : IsRing at r g) (p : Point) where
+    -- a side of the fan, and the rays to its ends
+    one_level : (side : Side) → OneLevel at z p (fan_on c g side)
+    one_level side =
+        sides_one p side (border side r) (gap r (only (at c)) side) c (begins g side) (begins g (next side))
+        (inside_of g side) (only_gap r (at c) side) (gap_above r (only (at c)) (only_inner r (at c) i) side)
+        (begins_across at r c g i ring side) (follows at r c g i ring side)
+
+    tiled : (side : Side) → Tiling at (SectorOf r (only (at c)) side) (OpenSectorOf r (only (at c)) side) (fan_on c g side)
+    tiled side = side_tiles at r c g i ring side
+
+    first : (side : Side) → HasEdge at z (begins g side) c (fan_on c g side)
+    first side = first_ray c (begins g side) (begins g (next side)) (inside_of g side) (tiled side).ccw
+
+    last : (side : Side) → HasEdge at z (begins g (next side)) c (fan_on c g side)
+    last side = last_ray c (begins g side) (begins g (next side)) (inside_of g side) (tiled side).ccw
+
+    beside : (side : Side) → Cross at z p (fan_on c g side) (fan_on c g (next side))
+    beside =
+        neighbours at z r (only (at c)) (only_inner r (at c) i) (begins g) (λ side. c) (begins_at at r c g i ring)
+        (λ side. sym (only_start (at c) side)) (fan_on c g) tiled first last p one_level
+
+    -- what is as far from a side as the point c is, and in the sector of that side, is c
+    far_sides : (side other : Side) → inset r side p ≡ gap r (only (at c)) side
+        → (gap r (only (at c)) other *ℤ inset r side p) ≤ℤ (gap r (only (at c)) side *ℤ inset r other p)
+        → gap r (only (at c)) other ≤ℤ inset r other p
+    far_sides side other =
+        far_enough (gap r (only (at c)) other) (gap r (only (at c)) side) (inset r side p) (inset r other p)
+        (gap_above r (only (at c)) (only_inner r (at c) i) side)
+
+    south_north : Cross at z p (fan_on c g South) (fan_on c g North)
+    south_north =
+        centre_cross p c g.south_west g.north_east (fan_on c g South) (fan_on c g North) (first South) (first North)
+        (one_level South) (one_level North) (λ a b.
+        let k = (tiled South).within p a in
+        let e : inset r South p ≡ gap r (only (at c)) South =
+        omega (arith, ints, k.below, ((tiled North).within p b).below) in
+        (omega (arith, ints, far_sides South West e k.first, far_sides South East e k.second), omega (arith, ints, e)))
+
+    east_west : Cross at z p (fan_on c g East) (fan_on c g West)
+    east_west =
+        centre_cross p c g.south_east g.north_west (fan_on c g East) (fan_on c g West) (first East) (first West)
+        (one_level East) (one_level West) (λ a b.
+        let k = (tiled East).within p a in
+        let e : inset r East p ≡ gap r (only (at c)) East =
+        omega (arith, ints, k.below, ((tiled West).within p b).below) in
+        (omega (arith, ints, e), omega (arith, ints, far_sides East South e k.first, far_sides East North e k.second)))
+
   pub fan_one : (p : Point) (r : Rect) (c : A) (g : Ring A) → InsideRect r (at c) → IsRing at r g
       → OneLevel at z p (fan c g.south_west (round g))
   fan_one p r c g i ring =
-      let q = only (at c) in
-      let sw : (p : Point)
-      → turn (at g.south_west)
-      (at c) p ≡ (q.west -ℤ r.west) *ℤ (p.v -ℤ r.south) -ℤ (q.south -ℤ r.south) *ℤ (p.u -ℤ r.west) =
-      λ p. ap (λ k. turn k (at c) p) ring.south_west ∙ south_west_turn r q p in
-      let se : (p : Point)
-      → turn (at g.south_east)
-      (at c) p ≡ (q.south -ℤ r.south) *ℤ (r.east -ℤ p.u) -ℤ (r.east -ℤ q.east) *ℤ (p.v -ℤ r.south) =
-      λ p. ap (λ k. turn k (at c) p) ring.south_east ∙ south_east_turn r q p in
-      let ne : (p : Point)
-      → turn (at g.north_east)
-      (at c) p ≡ (r.east -ℤ q.east) *ℤ (r.north -ℤ p.v) -ℤ (r.north -ℤ q.north) *ℤ (r.east -ℤ p.u) =
-      λ p. ap (λ k. turn k (at c) p) ring.north_east ∙ north_east_turn r q p in
-      let nw : (p : Point)
-      → turn (at g.north_west)
-      (at c) p ≡ (r.north -ℤ q.north) *ℤ (p.u -ℤ r.west) -ℤ (q.west -ℤ r.west) *ℤ (r.north -ℤ p.v) =
-      λ p. ap (λ k. turn k (at c) p) ring.north_west ∙ north_west_turn r q p in
-      let ds : pos 0 <ℤ (q.south -ℤ r.south) = omega (arith, ints, i) in
-      let de : pos 0 <ℤ (r.east -ℤ q.east) = omega (arith, ints, i) in
-      let dn : pos 0 <ℤ (r.north -ℤ q.north) = omega (arith, ints, i) in
-      let dw : pos 0 <ℤ (q.west -ℤ r.west) = omega (arith, ints, i) in
-      let esw = ap (λ k. k.v) ring.south_west in let ese = ap (λ k. k.u) ring.south_east in
-      let ene = ap (λ k. k.v) ring.north_east in let enw = ap (λ k. k.u) ring.north_west in
-      let S = fan c g.south_west (south_of g) in let E = fan c g.south_east (east_of g) in
-      let N = fan c g.north_east (north_of g) in let W = fan c g.north_west (west_of g) in
-      let ts = side_tiles at South r.south c g.south_west g.south_east g.south (λ p. p.u -ℤ r.west)
-      (λ p. r.east -ℤ p.u)
-      (q.south -ℤ r.south) (q.west -ℤ r.west) (r.east -ℤ q.east) refl ds esw ring.south sw se in
-      let te = side_tiles at East r.east c g.south_east g.north_east g.east (λ p. p.v -ℤ r.south)
-      (λ p. r.north -ℤ p.v)
-      (r.east -ℤ q.east) (q.south -ℤ r.south) (r.north -ℤ q.north) refl de ese ring.east se ne in
-      let tn = side_tiles at North r.north c g.north_east g.north_west g.north (λ p. r.east -ℤ p.u)
-      (λ p. p.u -ℤ r.west)
-      (r.north -ℤ q.north) (r.east -ℤ q.east) (q.west -ℤ r.west) refl dn ene ring.north ne nw in
-      let tw = side_tiles at West r.west c g.north_west g.south_west g.west (λ p. r.north -ℤ p.v)
-      (λ p. p.v -ℤ r.south)
-      (q.west -ℤ r.west) (r.north -ℤ q.north) (q.south -ℤ r.south) refl dw enw ring.west nw sw in
-      let os = sides_one p South r.south
-      (q.south -ℤ r.south) c g.south_west g.south_east g.south refl ds esw ring.south in
-      let oe = sides_one p East r.east
-      (r.east -ℤ q.east) c g.south_east g.north_east g.east refl de ese ring.east in
-      let on = sides_one p North r.north
-      (r.north -ℤ q.north) c g.north_east g.north_west g.north refl dn ene ring.north in
-      let ow = sides_one p West r.west
-      (q.west -ℤ r.west) c g.north_west g.south_west g.west refl dw enw ring.west in
-      let fs = first_ray c g.south_west g.south_east g.south ts.ccw in
-      let ls = last_ray c g.south_west g.south_east g.south ts.ccw in
-      let fe = first_ray c g.south_east g.north_east g.east te.ccw in
-      let le = last_ray c g.south_east g.north_east g.east te.ccw in
-      let fn = first_ray c g.north_east g.north_west g.north tn.ccw in
-      let ln = last_ray c g.north_east g.north_west g.north tn.ccw in
-      let fw = first_ray c g.north_west g.south_west g.west tw.ccw in
-      let lw = last_ray c g.north_west g.south_west g.west tw.ccw in
-      let cse =
-      segment_cross at z p South r.south q.south g.south_east c S E i.south
-      (ap (λ k. k.v) ring.south_east) refl
-      (λ a. ((ts.within p a).above, (ts.within p a).below))
-      (λ a b. omega (arith, ints, se p, (ts.within p a).second, (te.within p b).first)) ls fe os oe in
-      let csw = segment_cross at z p South r.south q.south g.south_west c S W i.south esw refl
-      (λ a. ((ts.within p a).above, (ts.within p a).below))
-      (λ a b. omega (arith, ints, sw p, (ts.within p a).first, (tw.within p b).second)) fs lw os ow in
-      let cen =
-      segment_cross at z p East r.east q.east g.north_east c E N i.east
-      (ap (λ k. k.u) ring.north_east) refl
-      (λ a. ((te.within p a).above, (te.within p a).below))
-      (λ a b. omega (arith, ints, ne p, (te.within p a).second, (tn.within p b).first)) le fn oe on in
-      let cnw =
-      segment_cross at z p North r.north q.north g.north_west c N W i.north
-      (ap (λ k. k.v) ring.north_west) refl
-      (λ a. ((tn.within p a).above, (tn.within p a).below))
-      (λ a b. omega (arith, ints, nw p, (tn.within p a).second, (tw.within p b).first)) ln fw on ow in
-      let csn = centre_cross p c g.south_west g.north_east S N fs fn os on (λ a b.
-      let k = ts.within p a in let l = tn.within p b in
-      let e : p.v -ℤ r.south ≡ q.south -ℤ r.south = omega (arith, ints, k.below, l.below) in
-      let west =
-      far_enough (q.west -ℤ r.west) (q.south -ℤ r.south) (p.v -ℤ r.south) (p.u -ℤ r.west) ds e k.first in
-      let east =
-      far_enough (r.east -ℤ q.east) (q.south -ℤ r.south) (p.v -ℤ r.south) (r.east -ℤ p.u) ds e k.second in
-      (omega (arith, ints, west, east), omega (arith, ints, e))) in
-      let cew = centre_cross p c g.south_east g.north_west E W fe fw oe ow (λ a b.
-      let k = te.within p a in let l = tw.within p b in
-      let e : r.east -ℤ p.u ≡ r.east -ℤ q.east = omega (arith, ints, k.below, l.below) in
-      let south =
-      far_enough (q.south -ℤ r.south) (r.east -ℤ q.east) (r.east -ℤ p.u) (p.v -ℤ r.south) de e k.first in
-      let north =
-      far_enough (r.north -ℤ q.north) (r.east -ℤ q.east) (r.east -ℤ p.u) (r.north -ℤ p.v) de e k.second in
-      (omega (arith, ints, e), omega (arith, ints, south, north))) in
-      subst (λ (us : List (Triple A)). OneLevel at z p us)
-      (sym (fan_append at c g.south_west g.south_east g.south (east_of g ++ (north_of g ++ west_of g))
-      ∙ ap (λ (us : List (Triple A)). S ++ us)
-      (fan_append at c g.south_east g.north_east g.east (north_of g ++ west_of g)
-      ∙ ap (λ (us : List (Triple A)). E ++ us)
-      (fan_append at c g.north_east g.north_west g.north (west_of g)))))
-      (four_levels at z p S E N W os oe on ow cse csn csw cen cew cnw)
+      let one = one_level r c g i ring p in let near = beside r c g i ring p in
+      subst (λ (us : List (Triple A)). OneLevel at z p us) (fan_sides at c g)
+      (four_levels at z p (fan_on c g South) (fan_on c g East) (fan_on c g North) (fan_on c g West) (one South) (one East)
+      (one North) (one West) (near South) (south_north r c g i ring p)
+      (cross_sym at z p (fan_on c g West) (fan_on c g South) (near West)) (near East) (east_west r c g i ring p)
+      (near North))

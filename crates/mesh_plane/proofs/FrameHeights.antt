@@ -1,23 +1,24 @@
 -- A frame of four strips, and the rectangle inside it, have one height at each point.
 use Rattle.std.proofs.Common.{◌≡◌, refl, ap, sym, arith, ◌∙◌, List, [], ◌∷◌, ◌++◌, inl, inr, subst}
 use Rattle.std.specs.Prelude.{ℤ, ◌+ℤ◌, ◌-ℤ◌, ◌*ℤ◌, ◌≤ℤ◌, ◌<ℤ◌}
-use Rattle.std.specs.List.{AllByRecursion}
 use Rattle.std.proofs.lemmas.Int.{ints, by_lt_z}
 use Rattle.polynomial.proofs.Expressions.{var, add, sub, mul}
 use Rattle.polynomial.proofs.NormalForm.{by_ring}
 use Rattle.mesh_plane.specs.Plane.{Point}
 use Rattle.terrain_base.specs.declared.side.Side.{Side}
 use Rattle.terrain_base.specs.declared.side.Side.TheVariants.{South, East, North, West}
-use Rattle.mesh_plane.specs.Triangles.{Triple, Step, Outer, Inner, strip, inner_end}
+use Rattle.mesh_plane.specs.Triangles.{Triple, Step, Outer, Inner, inner_end}
 use Rattle.mesh_plane.specs.Fan.{Rect, InRect, InsideRect}
 use Rattle.mesh_plane.specs.Strip.{along, across, Ascend}
 use Rattle.mesh_plane.proofs.Moves.{swapped}
-use Rattle.mesh_plane.proofs.Tilings.{IsCcw, Held, Tiling}
-use Rattle.mesh_plane.proofs.Frames.{IsInner}
-use Rattle.mesh_plane.proofs.StripFrames.{Corners, AreAt, Runs, south_strip, east_strip, north_strip, west_strip, sw_turn, se_turn, ne_turn, nw_turn}
-use Rattle.mesh_plane.proofs.Heights.{OneLevel, Cross, cross_when}
+use Rattle.mesh_plane.proofs.Tilings.{Held, Tiling}
+use Rattle.mesh_plane.proofs.Sides.{next, border, start_of, inset, gap}
+use Rattle.mesh_plane.proofs.Frames.{SectorOf, OpenSectorOf, IsInner, is_outside}
+use Rattle.mesh_plane.proofs.StripFrames.{Corners, AreAt, outer_corner, inner_corner, run_from, run_to, side_list, SideRuns, outer_at, inner_at, outer_across, inner_across, side_strip}
+use Rattle.mesh_plane.proofs.Heights.{OneLevel, Cross, cross_when, cross_sym}
 use Rattle.mesh_plane.proofs.Edges.{On, HasEdge, Shows, Met, line_crosses, chain}
-use Rattle.mesh_plane.proofs.StripHeights.{IsOn, on_swapped, inners, strip_one, shows_inner, first_edge, last_edge, segment_cross, five_levels}
+use Rattle.mesh_plane.proofs.StripHeights.{IsOn, is_on_swapped, inners, strip_one, shows_inner, first_edge, last_edge, five_levels}
+use Rattle.mesh_plane.proofs.SectorHeights.{neighbours}
 
 -- ---- points of a line along an axis
 level_on : (a b p : Point) → b.v ≡ a.v → p.v ≡ a.v → a.u <ℤ b.u → a.u ≤ℤ p.u → p.u ≤ℤ b.u
@@ -36,25 +37,18 @@ level_on a b p e f l from to = record {
       ∙ ap (λ i. (b.u -ℤ p.u) *ℤ a.v +ℤ (p.u -ℤ a.u) *ℤ i) (sym e);
 }
 
+level_met : (a b p : Point) → b.v ≡ a.v → p.v ≡ a.v → a.u <ℤ b.u → a.u ≤ℤ p.u → p.u ≤ℤ b.u → IsOn a b p
+level_met a b p e f l from to = (b.u -ℤ p.u, p.u -ℤ a.u, level_on a b p e f l from to)
+
 pub line_on : (side : Side) (line : ℤ) (a b p : Point) → across side a ≡ line → across side b ≡ line
     → across side p ≡ line
     → along side a <ℤ along side b → along side a ≤ℤ along side p → along side p ≤ℤ along side b → IsOn a b p
-line_on South line a b p ea eb ep l from to =
-    (b.u -ℤ p.u, p.u -ℤ a.u, level_on a b p (eb ∙ sym ea) (ep ∙ sym ea) l from to)
-line_on North line a b p ea eb ep l from to =
-    (b.u -ℤ p.u, p.u -ℤ a.u, level_on a b p (eb ∙ sym ea) (ep ∙ sym ea) l from to)
-line_on East line a b p ea eb ep l from to = (
-  b.v -ℤ p.v,
-  p.v -ℤ a.v,
-  on_swapped a b p (b.v -ℤ p.v) (p.v -ℤ a.v)
-      (level_on (swapped a) (swapped b) (swapped p) (eb ∙ sym ea) (ep ∙ sym ea) l from to),
-)
-line_on West line a b p ea eb ep l from to = (
-  b.v -ℤ p.v,
-  p.v -ℤ a.v,
-  on_swapped a b p (b.v -ℤ p.v) (p.v -ℤ a.v)
-      (level_on (swapped a) (swapped b) (swapped p) (eb ∙ sym ea) (ep ∙ sym ea) l from to),
-)
+line_on South line a b p ea eb ep l from to = level_met a b p (eb ∙ sym ea) (ep ∙ sym ea) l from to
+line_on North line a b p ea eb ep l from to = level_met a b p (eb ∙ sym ea) (ep ∙ sym ea) l from to
+line_on East line a b p ea eb ep l from to =
+    is_on_swapped a b p (level_met (swapped a) (swapped b) (swapped p) (eb ∙ sym ea) (ep ∙ sym ea) l from to)
+line_on West line a b p ea eb ep l from to =
+    is_on_swapped a b p (level_met (swapped a) (swapped b) (swapped p) (eb ∙ sym ea) (ep ∙ sym ea) l from to)
 
 abbrev pub last_of : {A : Type 0} → A → List A → A
 last_of o [] = o
@@ -109,171 +103,110 @@ module _ {A : Type 0} (at : A → Point) where
         line_crosses at z p (chain o rs) ts us (chain_met p side line o rs eo c k.0 k.1 k.2 l) a b one two)
 
     module _ (r q : Rect) (i : IsInner r q) (wide : q.west <ℤ q.east) (high : q.south <ℤ q.north)
-        (k : Corners A) (places : AreAt at r q k)
-        (t₁ t₂ t₃ t₄ : Step A) (s₁ s₂ s₃ s₄ : List (Step A))
-        (r₁ : Runs at South r.south q.south k.south_west k.inner_south_west k.south_east k.inner_south_east
-        t₁ s₁)
-        (r₂ : Runs at East r.east q.east k.south_east k.inner_south_east k.north_east k.inner_north_east t₂
-        s₂)
-        (r₃ : Runs at North r.north q.north k.north_west k.inner_north_west k.north_east k.inner_north_east
-        t₃ s₃)
-        (r₄ : Runs at West r.west q.west k.south_west k.inner_south_west k.north_west k.inner_north_west t₄
-        s₄) where
-      abbrev pub south_list : List (Triple A)
-      south_list = strip South k.south_west k.inner_south_west (t₁ ∷ s₁)
+        (k : Corners A) (places : AreAt at r q k) (t : Side → Step A) (s : Side → List (Step A))
+        (run : (side : Side) → SideRuns at r q i k places side (t side) (s side)) (p : Point) where
+      abbrev list : Side → List (Triple A)
+      list side = side_list at r q i k places side (t side) (s side)
 
-      abbrev pub east_list : List (Triple A)
-      east_list = strip East k.south_east k.inner_south_east (t₂ ∷ s₂)
+      tiled : (side : Side) → Tiling at (SectorOf r q side) (OpenSectorOf r q side) (list side)
+      tiled side = side_strip at r q i k places side (t side) (s side) (run side)
 
-      abbrev pub north_list : List (Triple A)
-      north_list = strip North k.north_west k.inner_north_west (t₃ ∷ s₃)
+      one_level : (side : Side) → OneLevel at z p (list side)
+      one_level side =
+          strip_one at z p side (border side r) (border side q) (outer_corner k (run_from side))
+          (inner_corner k (run_from side)) (t side) (s side) (is_outside r q i side)
+          (outer_across at r q i k places side) (inner_across at r q i k places side) (run side).ascends
 
-      abbrev pub west_list : List (Triple A)
-      west_list = strip West k.south_west k.inner_south_west (t₄ ∷ s₄)
+      -- ---- two strips beside each other
+      edge_from : (side : Side)
+          → HasEdge at z (outer_corner k (run_from side)) (inner_corner k (run_from side)) (list side)
+      edge_from side =
+          first_edge at z side (outer_corner k (run_from side)) (inner_corner k (run_from side)) (t side) (s side)
+          (tiled side).ccw
 
-      ends : (side : Side) (outer inner : ℤ) (o n o' n' : A) (t : Step A) (steps : List (Step A))
-          (run : Runs at side outer inner o n o' n' t steps)
-          → AllByRecursion (IsCcw at) (strip side o n (t ∷ steps))
-          → HasEdge at z o' n' (strip side o n (t ∷ steps))
-      ends side outer inner o n o' n' t steps run c =
-          let ts = strip side o n (t ∷ steps) in
-          subst (λ (x : A). HasEdge at z o' x ts) run.inner_to
-          (subst (λ (x : A). HasEdge at z x (inner_end n (t ∷ steps)) ts) run.outer_to
-          (last_edge at z side o n t steps c))
+      edge_to : (side : Side) → HasEdge at z (outer_corner k (run_to side)) (inner_corner k (run_to side)) (list side)
+      edge_to side =
+          let o = outer_corner k (run_from side) in let n = inner_corner k (run_from side) in
+          subst (λ (x : A). HasEdge at z (outer_corner k (run_to side)) x (list side)) (run side).inner_to
+          (subst (λ (x : A). HasEdge at z x (inner_end n (t side ∷ s side)) (list side)) (run side).outer_to
+          (last_edge at z side o n (t side) (s side) (tiled side).ccw))
 
-      -- the inner line of a strip ends at an inner corner
-      line_end : (side : Side) (outer inner : ℤ) (o n o' n' : A) (t : Step A) (steps : List (Step A))
-          (run : Runs at side outer inner o n o' n' t steps)
-          → at (last_of n (inners (t ∷ steps))) ≡ at n'
-      line_end side outer inner o n o' n' t steps run = ap at (inner_last n (t ∷ steps) ∙ run.inner_to)
+      first : (side : Side) → HasEdge at z (outer_corner k side) (inner_corner k side) (list side)
+      first South = edge_from South
+      first East = edge_from East
+      first North = edge_to North
+      first West = edge_to West
 
-      pub frame_one : (p : Point) (qs : List (Triple A)) → Tiling at (InRect q) (InsideRect q) qs
-          → OneLevel at z p qs
-          → Shows at z (chain k.inner_south_west (inners (t₁ ∷ s₁))) qs
-          → Shows at z (chain k.inner_south_east (inners (t₂ ∷ s₂))) qs
-          → Shows at z (chain k.inner_north_west (inners (t₃ ∷ s₃))) qs
-          → Shows at z (chain k.inner_south_west (inners (t₄ ∷ s₄))) qs
-          → OneLevel at z p (south_list ++ (east_list ++ (north_list ++ (west_list ++ qs))))
-      frame_one p qs hq oq sq eq nq wq =
-          let hs = south_strip at r q i k places t₁ s₁ r₁ in let he = east_strip at r q i k places t₂ s₂ r₂ in
-          let hn = north_strip at r q i k places t₃ s₃ r₃ in let hw = west_strip at r q i k places t₄ s₄ r₄ in
-          let osw = ap (λ j. j.v) places.south_west in let isw = ap (λ j. j.v) places.inner_south_west in
-          let ose = ap (λ j. j.u) places.south_east in let ise = ap (λ j. j.u) places.inner_south_east in
-          let onw = ap (λ j. j.v) places.north_west in let inw = ap (λ j. j.v) places.inner_north_west in
-          let wsw = ap (λ j. j.u) places.south_west in let wiw = ap (λ j. j.u) places.inner_south_west in
-          let os = strip_one at z p South r.south q.south k.south_west k.inner_south_west t₁ s₁ i.south osw
-          isw r₁.ascends in
-          let oe = strip_one at z p East r.east q.east k.south_east k.inner_south_east t₂ s₂ i.east ose ise
-          r₂.ascends in
-          let on = strip_one at z p North r.north q.north k.north_west k.inner_north_west t₃ s₃ i.north onw
-          inw r₃.ascends in
-          let ow = strip_one at z p West r.west q.west k.south_west k.inner_south_west t₄ s₄ i.west wsw wiw
-          r₄.ascends in
-          let se = segment_cross at z p South r.south q.south k.south_east k.inner_south_east south_list
-          east_list i.south
-          (ap (λ j. j.v) places.south_east) (ap (λ j. j.v) places.inner_south_east)
-          (λ a. ((hs.within p a).above, (hs.within p a).below))
-          (λ a b. omega (
-            arith,
-            ints,
-            se_turn at r q i k places p,
-            (hs.within p a).second,
-            (he.within p b).first,
-          ))
-          (ends South r.south q.south k.south_west k.inner_south_west k.south_east k.inner_south_east t₁ s₁
-          r₁ hs.ccw)
-          (first_edge at z East k.south_east k.inner_south_east t₂ s₂ he.ccw) os oe in
-          let sw = segment_cross at z p South r.south q.south k.south_west k.inner_south_west south_list
-          west_list i.south osw isw
-          (λ a. ((hs.within p a).above, (hs.within p a).below))
-          (λ a b. omega (
-            arith,
-            ints,
-            sw_turn at r q i k places p,
-            (hs.within p a).first,
-            (hw.within p b).second,
-          ))
-          (first_edge at z South k.south_west k.inner_south_west t₁ s₁ hs.ccw)
-          (first_edge at z West k.south_west k.inner_south_west t₄ s₄ hw.ccw) os ow in
-          let en = segment_cross at z p East r.east q.east k.north_east k.inner_north_east east_list
-          north_list i.east
-          (ap (λ j. j.u) places.north_east) (ap (λ j. j.u) places.inner_north_east)
-          (λ a. ((he.within p a).above, (he.within p a).below))
-          (λ a b. omega (
-            arith,
-            ints,
-            ne_turn at r q i k places p,
-            (he.within p a).second,
-            (hn.within p b).first,
-          ))
-          (ends East r.east q.east k.south_east k.inner_south_east k.north_east k.inner_north_east t₂ s₂ r₂
-          he.ccw)
-          (ends North r.north q.north k.north_west k.inner_north_west k.north_east k.inner_north_east t₃ s₃
-          r₃ hn.ccw) oe on in
-          let nw = segment_cross at z p North r.north q.north k.north_west k.inner_north_west north_list
-          west_list i.north onw inw
-          (λ a. ((hn.within p a).above, (hn.within p a).below))
-          (λ a b. omega (
-            arith,
-            ints,
-            nw_turn at r q i k places p,
-            (hn.within p a).second,
-            (hw.within p b).first,
-          ))
-          (first_edge at z North k.north_west k.inner_north_west t₃ s₃ hn.ccw)
-          (ends West r.west q.west k.south_west k.inner_south_west k.north_west k.inner_north_west t₄ s₄ r₄
-          hw.ccw) on ow in
-          let sn : Cross at z p south_list north_list = cross_when at z p south_list north_list
-          (λ a b. absurd (omega (arith, ints, high, (hs.within p a).below, (hn.within p b).below))) in
-          let ew : Cross at z p east_list west_list = cross_when at z p east_list west_list
-          (λ a b. absurd (omega (arith, ints, wide, (he.within p a).below, (hw.within p b).below))) in
-          let e₁ = line_end South r.south q.south k.south_west k.inner_south_west k.south_east
-          k.inner_south_east t₁ s₁ r₁ ∙ places.inner_south_east in
-          let e₂ = line_end East r.east q.east k.south_east k.inner_south_east k.north_east
-          k.inner_north_east t₂ s₂ r₂ ∙ places.inner_north_east in
-          let e₃ = line_end North r.north q.north k.north_west k.inner_north_west k.north_east
-          k.inner_north_east t₃ s₃ r₃ ∙ places.inner_north_east in
-          let e₄ = line_end West r.west q.west k.south_west k.inner_south_west k.north_west
-          k.inner_north_west t₄ s₄ r₄ ∙ places.inner_north_west in
-          let u₁ = ap (λ j. j.u) e₁ in let v₂ = ap (λ j. j.v) e₂ in let u₃ = ap (λ j. j.u) e₃ in
-          let v₄ = ap (λ j. j.v) e₄ in
-          let f₁ = ap (λ j. j.u) places.inner_south_west in let f₂ = ap (λ j. j.v) places.inner_south_east in
-          let f₃ = ap (λ j. j.u) places.inner_north_west in let f₄ = ap (λ j. j.v) places.inner_south_west in
-          let sc = chain_cross p South q.south k.inner_south_west (inners (t₁ ∷ s₁)) south_list qs isw
-          (inners_climb South r.south q.south k.south_west k.inner_south_west (t₁ ∷ s₁) r₁.ascends)
-          (omega (arith, ints, f₁, u₁, wide))
-          (λ a b. let m = hq.within p b in (
-            omega (arith, ints, (hs.within p a).below, m.south),
-            omega (arith, ints, f₁, m.west),
-            omega (arith, ints, u₁, m.east),
-          ))
-          (shows_inner at z South k.south_west k.inner_south_west (t₁ ∷ s₁) hs.ccw) sq os oq in
-          let ec = chain_cross p East q.east k.inner_south_east (inners (t₂ ∷ s₂)) east_list qs ise
-          (inners_climb East r.east q.east k.south_east k.inner_south_east (t₂ ∷ s₂) r₂.ascends)
-          (omega (arith, ints, f₂, v₂, high))
-          (λ a b. let m = hq.within p b in (
-            omega (arith, ints, (he.within p a).below, m.east),
-            omega (arith, ints, f₂, m.south),
-            omega (arith, ints, v₂, m.north),
-          ))
-          (shows_inner at z East k.south_east k.inner_south_east (t₂ ∷ s₂) he.ccw) eq oe oq in
-          let nc = chain_cross p North q.north k.inner_north_west (inners (t₃ ∷ s₃)) north_list qs inw
-          (inners_climb North r.north q.north k.north_west k.inner_north_west (t₃ ∷ s₃) r₃.ascends)
-          (omega (arith, ints, f₃, u₃, wide))
-          (λ a b. let m = hq.within p b in (
-            omega (arith, ints, (hn.within p a).below, m.north),
-            omega (arith, ints, f₃, m.west),
-            omega (arith, ints, u₃, m.east),
-          ))
-          (shows_inner at z North k.north_west k.inner_north_west (t₃ ∷ s₃) hn.ccw) nq on oq in
-          let wc = chain_cross p West q.west k.inner_south_west (inners (t₄ ∷ s₄)) west_list qs wiw
-          (inners_climb West r.west q.west k.south_west k.inner_south_west (t₄ ∷ s₄) r₄.ascends)
-          (omega (arith, ints, f₄, v₄, high))
-          (λ a b. let m = hq.within p b in (
-            omega (arith, ints, (hw.within p a).below, m.west),
-            omega (arith, ints, f₄, m.south),
-            omega (arith, ints, v₄, m.north),
-          ))
-          (shows_inner at z West k.south_west k.inner_south_west (t₄ ∷ s₄) hw.ccw) wq ow oq in
-          five_levels at z p south_list east_list north_list west_list qs os oe on ow oq se sn sw sc en ew ec
-          nw nc wc
+      last : (side : Side) → HasEdge at z (outer_corner k (next side)) (inner_corner k (next side)) (list side)
+      last South = edge_to South
+      last East = edge_to East
+      last North = edge_from North
+      last West = edge_from West
+
+      beside : (side : Side) → Cross at z p (list side) (list (next side))
+      beside =
+          neighbours at z r q i (outer_corner k) (inner_corner k) (outer_at at r q i k places)
+          (inner_at at r q i k places) list tiled first last p one_level
+
+      -- ---- two strips that have the inner rectangle between them
+      south_north : Cross at z p (list South) (list North)
+      south_north =
+          cross_when at z p (list South) (list North)
+          (λ a b. absurd (omega (arith, ints, high, ((tiled South).within p a).below, ((tiled North).within p b).below)))
+
+      east_west : Cross at z p (list East) (list West)
+      east_west =
+          cross_when at z p (list East) (list West)
+          (λ a b. absurd (omega (arith, ints, wide, ((tiled East).within p a).below, ((tiled West).within p b).below)))
+
+      -- ---- a strip and the inner rectangle
+      -- the inner line of a strip goes from corner to corner
+      inner_from : (side : Side)
+          → along side (at (inner_corner k (run_from side))) ≡ along side (start_of (run_from side) q)
+      inner_from side = ap (along side) (inner_at at r q i k places (run_from side))
+
+      inner_to : (side : Side) → along side (at (last_of (inner_corner k (run_from side)) (inners (t side ∷ s side))))
+          ≡ along side (start_of (run_to side) q)
+      inner_to side =
+          ap (λ (x : A). along side (at x))
+          (inner_last (inner_corner k (run_from side)) (t side ∷ s side) ∙ (run side).inner_to)
+          ∙ ap (along side) (inner_at at r q i k places (run_to side))
+
+      inner_long : (side : Side) → along side (start_of (run_from side) q) <ℤ along side (start_of (run_to side) q)
+      inner_long South = wide
+      inner_long East = high
+      inner_long North = wide
+      inner_long West = high
+
+      -- what is both beside the inner rectangle and in it lies on that line
+      on_inner : (side : Side) → inset r side p ≤ℤ gap r q side → InRect q p → (across side p ≡ border side q)
+          × (along side (start_of (run_from side) q) ≤ℤ along side p)
+          × (along side p ≤ℤ along side (start_of (run_to side) q))
+      on_inner South near m = (omega (arith, ints, near, m), m.west, m.east)
+      on_inner East near m = (omega (arith, ints, near, m), m.south, m.north)
+      on_inner North near m = (omega (arith, ints, near, m), m.west, m.east)
+      on_inner West near m = (omega (arith, ints, near, m), m.south, m.north)
+
+      module _ (qs : List (Triple A)) (hq : Tiling at (InRect q) (InsideRect q) qs) (oq : OneLevel at z p qs)
+          (shown : (side : Side) → Shows at z (chain (inner_corner k (run_from side)) (inners (t side ∷ s side))) qs)
+        where
+          inner_cross : (side : Side) → Cross at z p (list side) qs
+          inner_cross side =
+              let o = outer_corner k (run_from side) in let n = inner_corner k (run_from side) in
+              chain_cross p side (border side q) n (inners (t side ∷ s side)) (list side) qs
+              (inner_across at r q i k places side)
+              (inners_climb side (border side r) (border side q) o n (t side ∷ s side) (run side).ascends)
+              (omega (arith, ints, inner_from side, inner_to side, inner_long side))
+              (λ a b. let h = on_inner side ((tiled side).within p a).below (hq.within p b) in (
+                h.0,
+                omega (arith, ints, inner_from side, h.1),
+                omega (arith, ints, inner_to side, h.2),
+              ))
+              (shows_inner at z side o n (t side ∷ s side) (tiled side).ccw) (shown side) (one_level side) oq
+
+          pub frame_one : OneLevel at z p (list South ++ (list East ++ (list North ++ (list West ++ qs))))
+          frame_one =
+              five_levels at z p (list South) (list East) (list North) (list West) qs (one_level South) (one_level East)
+              (one_level North) (one_level West) oq (beside South) south_north
+              (cross_sym at z p (list West) (list South) (beside West)) (inner_cross South) (beside East) east_west
+              (inner_cross East) (beside North) (inner_cross North) (inner_cross West)

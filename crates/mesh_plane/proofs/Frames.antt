@@ -1,21 +1,23 @@
--- The frame between an outer rectangle and an inner one, in four sectors that meet along the segments from
--- corner to
--- corner. The inner rectangle may be one point.
-use Rattle.std.proofs.Common.{◌≡◌, refl, arith, List, [], ◌∷◌, ◌++◌, inl, inr, ⊎_elim}
+-- The frame between an outer rectangle and an inner one, in four sectors, one for each side, that meet along the
+-- segments from corner to corner. The inner rectangle may be one point.
+use Rattle.std.proofs.Common.{◌≡◌, refl, ap, arith, ◌∙◌, List, [], ◌∷◌, ◌++◌, inl, inr, ⊎_elim}
 use Rattle.std.specs.Prelude.{ℤ, pos, ◌-ℤ◌, ◌*ℤ◌, ◌≤ℤ◌, ◌<ℤ◌, ◌⊎◌}
 use Rattle.std.proofs.lemmas.Int.{ints}
 use Rattle.polynomial.proofs.Expressions.{var, sub, mul}
 use Rattle.polynomial.proofs.NormalForm.{by_ring}
 use Rattle.polynomial.proofs.Signs.{times_nonneg, factor_nonneg, factor_pos, weaken, by_le_z}
-use Rattle.mesh_plane.specs.Plane.{Point, point}
+use Rattle.terrain_base.specs.declared.side.Side.{Side}
+use Rattle.terrain_base.specs.declared.side.Side.TheVariants.{West, South, East, North}
+use Rattle.mesh_plane.specs.Plane.{Point}
 use Rattle.mesh_plane.specs.Triangles.{Triple}
 use Rattle.mesh_plane.specs.Fan.{Rect, InRect, InsideRect}
+use Rattle.mesh_plane.specs.Strip.{IsOutside}
 use Rattle.mesh_plane.proofs.Turns.{turn, turned}
 use Rattle.mesh_plane.proofs.Tilings.{Tiling, tiling_union, tiling_same}
 use Rattle.mesh_plane.proofs.Sweeps.{difference}
+use Rattle.mesh_plane.proofs.Sides.{next, before, before_next, depth_above, border, start_of, inset, gap}
 
--- x is the distance from one side of the outer rectangle, A and B are those from the two sides beside it; d,
--- a and b
+-- x is the distance from one side of the outer rectangle, A and B are those from the two sides beside it; d, a and b
 -- are the same distances of the inner rectangle
 pub record Sector (d x a A b B : ℤ) : Type 0 where
   pub above : pos 0 ≤ℤ x
@@ -63,44 +65,29 @@ short a d x y hd ha hx h =
     )) in
     omega (arith, ints, k)
 
--- what is near one side lies in its sector, or in one of those beside it
-near : (d x a A b B e F : ℤ) → pos 0 <ℤ d → pos 0 <ℤ a → pos 0 <ℤ b → pos 0 ≤ℤ e → pos 0 ≤ℤ x → x ≤ℤ d
-    → pos 0 ≤ℤ A
-    → pos 0 ≤ℤ B → e ≤ℤ F → Sector d x a A b B ⊎ (Sector a A e F d x ⊎ Sector b B d x e F)
-near d x a A b B e F hd ha hb he hx xd hA hB eF =
-    by_le_z (a *ℤ x) (d *ℤ A)
-    (λ f. by_le_z (b *ℤ x) (d *ℤ B)
-    (λ g. inl (record { above = hx; below = xd; first = f; second = g }))
-    (λ g. let s : B ≤ℤ b = short b d x B hd (weaken hb) xd g in
-    inr (inr (record { above = hB; below = s; first = g; second = across e b B F he (weaken hb) s eF }))))
-    (λ f. let s : A ≤ℤ a = short a d x A hd (weaken ha) xd f in
-    inr (inl (record { above = hA; below = s; first = across e a A F he (weaken ha) s eF; second = f })))
-
--- ---- the turns about the segments between corners, by distances
-pub south_west_turn : (r q : Rect) (p : Point) → turn (point r.west r.south) (point q.west q.south) p
-    ≡ (q.west -ℤ r.west) *ℤ (p.v -ℤ r.south) -ℤ (q.south -ℤ r.south) *ℤ (p.u -ℤ r.west)
-south_west_turn r q p = refl
-
-pub south_east_turn : (r q : Rect) (p : Point) → turn (point r.east r.south) (point q.east q.south) p
-    ≡ (q.south -ℤ r.south) *ℤ (r.east -ℤ p.u) -ℤ (r.east -ℤ q.east) *ℤ (p.v -ℤ r.south)
-south_east_turn r q p =
+-- ---- the turn about the segment between the corners where a side begins, by distances
+pub corner_turn : (r q : Rect) (side : Side) (p : Point) → turn (start_of side r) (start_of side q) p
+    ≡ gap r q (before side) *ℤ inset r side p -ℤ gap r q side *ℤ inset r (before side) p
+corner_turn r q South p = refl
+corner_turn r q East p =
     by_ring (turned (var 0) (var 1) (var 2) (var 3) (var 4) (var 5))
     (sub (mul (sub (var 3) (var 1)) (sub (var 0) (var 4))) (mul (sub (var 0) (var 2)) (sub (var 5) (var 1))))
     (r.east ∷ r.south ∷ q.east ∷ q.south ∷ p.u ∷ p.v ∷ []) refl
-
-pub north_east_turn : (r q : Rect) (p : Point) → turn (point r.east r.north) (point q.east q.north) p
-    ≡ (r.east -ℤ q.east) *ℤ (r.north -ℤ p.v) -ℤ (r.north -ℤ q.north) *ℤ (r.east -ℤ p.u)
-north_east_turn r q p =
+corner_turn r q North p =
     by_ring (turned (var 0) (var 1) (var 2) (var 3) (var 4) (var 5))
     (sub (mul (sub (var 0) (var 2)) (sub (var 1) (var 5))) (mul (sub (var 1) (var 3)) (sub (var 0) (var 4))))
     (r.east ∷ r.north ∷ q.east ∷ q.north ∷ p.u ∷ p.v ∷ []) refl
-
-pub north_west_turn : (r q : Rect) (p : Point) → turn (point r.west r.north) (point q.west q.north) p
-    ≡ (r.north -ℤ q.north) *ℤ (p.u -ℤ r.west) -ℤ (q.west -ℤ r.west) *ℤ (r.north -ℤ p.v)
-north_west_turn r q p =
+corner_turn r q West p =
     by_ring (turned (var 0) (var 1) (var 2) (var 3) (var 4) (var 5))
     (sub (mul (sub (var 1) (var 3)) (sub (var 4) (var 0))) (mul (sub (var 2) (var 0)) (sub (var 1) (var 5))))
     (r.west ∷ r.north ∷ q.west ∷ q.north ∷ p.u ∷ p.v ∷ []) refl
+
+-- the same where the side ends
+pub corner_end : (r q : Rect) (side : Side) (p : Point) → turn (start_of (next side) r) (start_of (next side) q) p
+    ≡ gap r q side *ℤ inset r (next side) p -ℤ gap r q (next side) *ℤ inset r side p
+corner_end r q side p =
+    corner_turn r q (next side) p
+    ∙ ap (λ (s : Side). gap r q s *ℤ inset r (next side) p -ℤ gap r q (next side) *ℤ inset r s p) (before_next side)
 
 -- ---- the frame
 -- the inner rectangle lies strictly inside the outer one
@@ -113,45 +100,20 @@ pub record IsInner (r q : Rect) : Type 0 where
   pub high : q.south ≤ℤ q.north
 
 module _ (r q : Rect) where
-  abbrev pub SouthSector : Point → Type 0
-  SouthSector p =
-      Sector (q.south -ℤ r.south) (p.v -ℤ r.south) (q.west -ℤ r.west) (p.u -ℤ r.west) (r.east -ℤ q.east)
-      (r.east -ℤ p.u)
+  -- the sector of a side between the one before it and the one after it
+  abbrev pub SectorBetween : Side → Side → Side → Point → Type 0
+  SectorBetween side back ahead p =
+      Sector (gap r q side) (inset r side p) (gap r q back) (inset r back p) (gap r q ahead) (inset r ahead p)
 
-  abbrev pub EastSector : Point → Type 0
-  EastSector p =
-      Sector (r.east -ℤ q.east) (r.east -ℤ p.u) (q.south -ℤ r.south) (p.v -ℤ r.south) (r.north -ℤ q.north)
-      (r.north -ℤ p.v)
+  abbrev pub OpenSectorBetween : Side → Side → Side → Point → Type 0
+  OpenSectorBetween side back ahead p =
+      OpenSector (gap r q side) (inset r side p) (gap r q back) (inset r back p) (gap r q ahead) (inset r ahead p)
 
-  abbrev pub NorthSector : Point → Type 0
-  NorthSector p =
-      Sector (r.north -ℤ q.north) (r.north -ℤ p.v) (r.east -ℤ q.east) (r.east -ℤ p.u) (q.west -ℤ r.west)
-      (p.u -ℤ r.west)
+  abbrev pub SectorOf : Side → Point → Type 0
+  SectorOf side = SectorBetween side (before side) (next side)
 
-  abbrev pub WestSector : Point → Type 0
-  WestSector p =
-      Sector (q.west -ℤ r.west) (p.u -ℤ r.west) (r.north -ℤ q.north) (r.north -ℤ p.v) (q.south -ℤ r.south)
-      (p.v -ℤ r.south)
-
-  abbrev pub OpenSouth : Point → Type 0
-  OpenSouth p =
-      OpenSector (q.south -ℤ r.south) (p.v -ℤ r.south) (q.west -ℤ r.west) (p.u -ℤ r.west) (r.east -ℤ q.east)
-      (r.east -ℤ p.u)
-
-  abbrev pub OpenEast : Point → Type 0
-  OpenEast p =
-      OpenSector (r.east -ℤ q.east) (r.east -ℤ p.u) (q.south -ℤ r.south) (p.v -ℤ r.south)
-      (r.north -ℤ q.north) (r.north -ℤ p.v)
-
-  abbrev pub OpenNorth : Point → Type 0
-  OpenNorth p =
-      OpenSector (r.north -ℤ q.north) (r.north -ℤ p.v) (r.east -ℤ q.east) (r.east -ℤ p.u) (q.west -ℤ r.west)
-      (p.u -ℤ r.west)
-
-  abbrev pub OpenWest : Point → Type 0
-  OpenWest p =
-      OpenSector (q.west -ℤ r.west) (p.u -ℤ r.west) (r.north -ℤ q.north) (r.north -ℤ p.v)
-      (q.south -ℤ r.south) (p.v -ℤ r.south)
+  abbrev pub OpenSectorOf : Side → Point → Type 0
+  OpenSectorOf side = OpenSectorBetween side (before side) (next side)
 
   -- not strictly inside the inner rectangle, and strictly outside of it
   abbrev pub Around : Point → Type 0
@@ -167,132 +129,114 @@ module _ (r q : Rect) where
   InsideFrame p = InsideRect r p × Outside p
 
   module _ (i : IsInner r q) where
-    south_in : (p : Point) → SouthSector p → InFrame p
-    south_in p s =
-        let w = inward (q.west -ℤ r.west) (q.south -ℤ r.south) (p.u -ℤ r.west) (p.v -ℤ r.south)
-        (omega (arith, ints, i))
-        (omega (arith, ints, i)) s.above s.first in
-        let e = inward (r.east -ℤ q.east) (q.south -ℤ r.south) (r.east -ℤ p.u) (p.v -ℤ r.south)
-        (omega (arith, ints, i))
-        (omega (arith, ints, i)) s.above s.second in
-        (omega (arith, ints, i, s.above, s.below, w, e), inl (omega (arith, ints, s.below)))
+    pub is_outside : (side : Side) → IsOutside side (border side r) (border side q)
+    is_outside South = i.south
+    is_outside East = i.east
+    is_outside North = i.north
+    is_outside West = i.west
 
-    east_in : (p : Point) → EastSector p → InFrame p
-    east_in p s =
-        let w = inward (q.south -ℤ r.south) (r.east -ℤ q.east) (p.v -ℤ r.south) (r.east -ℤ p.u)
-        (omega (arith, ints, i))
-        (omega (arith, ints, i)) s.above s.first in
-        let e = inward (r.north -ℤ q.north) (r.east -ℤ q.east) (r.north -ℤ p.v) (r.east -ℤ p.u)
-        (omega (arith, ints, i))
-        (omega (arith, ints, i)) s.above s.second in
-        (omega (arith, ints, i, s.above, s.below, w, e), inr (inl (omega (arith, ints, s.below))))
+    pub gap_above : (side : Side) → pos 0 <ℤ gap r q side
+    gap_above side = depth_above side (border side r) (border side q) (is_outside side)
 
-    north_in : (p : Point) → NorthSector p → InFrame p
-    north_in p s =
-        let w = inward (r.east -ℤ q.east) (r.north -ℤ q.north) (r.east -ℤ p.u) (r.north -ℤ p.v)
-        (omega (arith, ints, i))
-        (omega (arith, ints, i)) s.above s.first in
-        let e = inward (q.west -ℤ r.west) (r.north -ℤ q.north) (p.u -ℤ r.west) (r.north -ℤ p.v)
-        (omega (arith, ints, i))
-        (omega (arith, ints, i)) s.above s.second in
-        (omega (arith, ints, i, s.above, s.below, w, e), inr (inr (inl (omega (arith, ints, s.below)))))
+    insets : (p : Point) → InRect r p → (side : Side) → pos 0 ≤ℤ inset r side p
+    insets p f South = omega (arith, ints, f)
+    insets p f East = omega (arith, ints, f)
+    insets p f North = omega (arith, ints, f)
+    insets p f West = omega (arith, ints, f)
 
-    west_in : (p : Point) → WestSector p → InFrame p
-    west_in p s =
-        let w = inward (r.north -ℤ q.north) (q.west -ℤ r.west) (r.north -ℤ p.v) (p.u -ℤ r.west)
-        (omega (arith, ints, i))
-        (omega (arith, ints, i)) s.above s.first in
-        let e = inward (q.south -ℤ r.south) (q.west -ℤ r.west) (p.v -ℤ r.south) (p.u -ℤ r.west)
-        (omega (arith, ints, i))
-        (omega (arith, ints, i)) s.above s.second in
-        (omega (arith, ints, i, s.above, s.below, w, e), inr (inr (inr (omega (arith, ints, s.below)))))
+    -- no further from a side than the inner rectangle is, and inside of those beside it
+    near_side : (side : Side) (p : Point) → pos 0 ≤ℤ inset r side p → inset r side p ≤ℤ gap r q side
+        → pos 0 ≤ℤ inset r (before side) p → pos 0 ≤ℤ inset r (next side) p → InFrame p
+    near_side South p a b c d = (omega (arith, ints, i, a, b, c, d), inl (omega (arith, ints, b)))
+    near_side East p a b c d = (omega (arith, ints, i, a, b, c, d), inr (inl (omega (arith, ints, b))))
+    near_side North p a b c d = (omega (arith, ints, i, a, b, c, d), inr (inr (inl (omega (arith, ints, b)))))
+    near_side West p a b c d = (omega (arith, ints, i, a, b, c, d), inr (inr (inr (omega (arith, ints, b)))))
 
-    south_inside : (p : Point) → OpenSouth p → InsideFrame p
-    south_inside p s =
-        let w = strictly_inward (q.west -ℤ r.west) (q.south -ℤ r.south) (p.u -ℤ r.west) (p.v -ℤ r.south)
-        (omega (arith, ints, i)) (omega (arith, ints, i)) (weaken s.above) s.first in
-        let e = strictly_inward (r.east -ℤ q.east) (q.south -ℤ r.south) (r.east -ℤ p.u) (p.v -ℤ r.south)
-        (omega (arith, ints, i)) (omega (arith, ints, i)) (weaken s.above) s.second in
-        (omega (arith, ints, i, s.above, s.below, w, e), inl (omega (arith, ints, s.below)))
+    nearer_side : (side : Side) (p : Point) → pos 0 <ℤ inset r side p → inset r side p <ℤ gap r q side
+        → pos 0 <ℤ inset r (before side) p → pos 0 <ℤ inset r (next side) p → InsideFrame p
+    nearer_side South p a b c d = (omega (arith, ints, i, a, b, c, d), inl (omega (arith, ints, b)))
+    nearer_side East p a b c d = (omega (arith, ints, i, a, b, c, d), inr (inl (omega (arith, ints, b))))
+    nearer_side North p a b c d = (omega (arith, ints, i, a, b, c, d), inr (inr (inl (omega (arith, ints, b)))))
+    nearer_side West p a b c d = (omega (arith, ints, i, a, b, c, d), inr (inr (inr (omega (arith, ints, b)))))
 
-    east_inside : (p : Point) → OpenEast p → InsideFrame p
-    east_inside p s =
-        let w = strictly_inward (q.south -ℤ r.south) (r.east -ℤ q.east) (p.v -ℤ r.south) (r.east -ℤ p.u)
-        (omega (arith, ints, i)) (omega (arith, ints, i)) (weaken s.above) s.first in
-        let e = strictly_inward (r.north -ℤ q.north) (r.east -ℤ q.east) (r.north -ℤ p.v) (r.east -ℤ p.u)
-        (omega (arith, ints, i)) (omega (arith, ints, i)) (weaken s.above) s.second in
-        (omega (arith, ints, i, s.above, s.below, w, e), inr (inl (omega (arith, ints, s.below))))
+    sector_in : (side : Side) (p : Point) → SectorOf side p → InFrame p
+    sector_in side p s =
+        let beside : (other : Side) → (gap r q other *ℤ inset r side p) ≤ℤ (gap r q side *ℤ inset r other p)
+        → pos 0 ≤ℤ inset r other p =
+        λ other. inward (gap r q other) (gap r q side) (inset r other p) (inset r side p) (gap_above side)
+        (weaken (gap_above other)) s.above in
+        near_side side p s.above s.below (beside (before side) s.first) (beside (next side) s.second)
 
-    north_inside : (p : Point) → OpenNorth p → InsideFrame p
-    north_inside p s =
-        let w = strictly_inward (r.east -ℤ q.east) (r.north -ℤ q.north) (r.east -ℤ p.u) (r.north -ℤ p.v)
-        (omega (arith, ints, i)) (omega (arith, ints, i)) (weaken s.above) s.first in
-        let e = strictly_inward (q.west -ℤ r.west) (r.north -ℤ q.north) (p.u -ℤ r.west) (r.north -ℤ p.v)
-        (omega (arith, ints, i)) (omega (arith, ints, i)) (weaken s.above) s.second in
-        (omega (arith, ints, i, s.above, s.below, w, e), inr (inr (inl (omega (arith, ints, s.below)))))
+    sector_inside : (side : Side) (p : Point) → OpenSectorOf side p → InsideFrame p
+    sector_inside side p s =
+        let beside : (other : Side) → (gap r q other *ℤ inset r side p) <ℤ (gap r q side *ℤ inset r other p)
+        → pos 0 <ℤ inset r other p =
+        λ other. strictly_inward (gap r q other) (gap r q side) (inset r other p) (inset r side p) (gap_above side)
+        (weaken (gap_above other)) (weaken s.above) in
+        nearer_side side p s.above s.below (beside (before side) s.first) (beside (next side) s.second)
 
-    west_inside : (p : Point) → OpenWest p → InsideFrame p
-    west_inside p s =
-        let w = strictly_inward (r.north -ℤ q.north) (q.west -ℤ r.west) (r.north -ℤ p.v) (p.u -ℤ r.west)
-        (omega (arith, ints, i)) (omega (arith, ints, i)) (weaken s.above) s.first in
-        let e = strictly_inward (q.south -ℤ r.south) (q.west -ℤ r.west) (p.v -ℤ r.south) (p.u -ℤ r.west)
-        (omega (arith, ints, i)) (omega (arith, ints, i)) (weaken s.above) s.second in
-        (omega (arith, ints, i, s.above, s.below, w, e), inr (inr (inr (omega (arith, ints, s.below)))))
+    -- what is near one side lies in its sector, or in one of those beside it
+    some_beside : (p : Point) → InRect r p → (side back ahead opposite : Side) → inset r side p ≤ℤ gap r q side
+        → gap r q opposite ≤ℤ inset r opposite p
+        → SectorBetween side back ahead p
+        ⊎ (SectorBetween back opposite side p ⊎ SectorBetween ahead side opposite p)
+    some_beside p f side back ahead opposite near far =
+        let narrow : (other : Side) → (gap r q side *ℤ inset r other p) ≤ℤ (gap r q other *ℤ inset r side p)
+        → inset r other p ≤ℤ gap r q other =
+        λ other. short (gap r q other) (gap r q side) (inset r side p) (inset r other p) (gap_above side)
+        (weaken (gap_above other)) near in
+        let further : (other : Side) → inset r other p ≤ℤ gap r q other
+        → (gap r q opposite *ℤ inset r other p) ≤ℤ (gap r q other *ℤ inset r opposite p) =
+        λ other h. across (gap r q opposite) (gap r q other) (inset r other p) (inset r opposite p)
+        (weaken (gap_above opposite)) (weaken (gap_above other)) h far in
+        by_le_z (gap r q back *ℤ inset r side p) (gap r q side *ℤ inset r back p)
+        (λ b. by_le_z (gap r q ahead *ℤ inset r side p) (gap r q side *ℤ inset r ahead p)
+        (λ a. inl (record { above = insets p f side; below = near; first = b; second = a }))
+        (λ a. let h = narrow ahead a in
+        inr (inr (record { above = insets p f ahead; below = h; first = a; second = further ahead h }))))
+        (λ b. let h = narrow back b in
+        inr (inl (record { above = insets p f back; below = h; first = further back h; second = b })))
 
     abbrev Some : Point → Type 0
-    Some p = SouthSector p ⊎ (EastSector p ⊎ (NorthSector p ⊎ WestSector p))
+    Some p = SectorOf South p ⊎ (SectorOf East p ⊎ (SectorOf North p ⊎ SectorOf West p))
 
     some_sector : (p : Point) → InFrame p → Some p
     some_sector p f =
-        let S = p.v -ℤ r.south in let E = r.east -ℤ p.u in let N = r.north -ℤ p.v in let W = p.u -ℤ r.west in
-        let ds = q.south -ℤ r.south in let de = r.east -ℤ q.east in let dn = r.north -ℤ q.north in
-        let dw = q.west -ℤ r.west in
-        let hs : pos 0 <ℤ ds = omega (arith, ints, i) in let he : pos 0 <ℤ de = omega (arith, ints, i) in
-        let hn : pos 0 <ℤ dn = omega (arith, ints, i) in let hw : pos 0 <ℤ dw = omega (arith, ints, i) in
-        let kS : pos 0 ≤ℤ S = omega (arith, ints, f.0) in let kE : pos 0 ≤ℤ E = omega (arith, ints, f.0) in
-        let kN : pos 0 ≤ℤ N = omega (arith, ints, f.0) in let kW : pos 0 ≤ℤ W = omega (arith, ints, f.0) in
         ⊎_elim
-        (λ (k : p.v ≤ℤ q.south).
-        ⊎_elim (λ x. inl x) (λ y. ⊎_elim (λ x. inr (inr (inr x))) (λ x. inr (inl x)) y)
-        (near ds S dw W de E dn N hs hw he (weaken hn) kS (omega (arith, ints, k)) kW kE
-        (omega (arith, ints, i, k))))
-        (λ k. ⊎_elim
-        (λ (k : q.east ≤ℤ p.u).
-        ⊎_elim (λ x. inr (inl x)) (λ y. ⊎_elim (λ x. inl x) (λ x. inr (inr (inl x))) y)
-        (near de E ds S dn N dw W he hs hn (weaken hw) kE (omega (arith, ints, k)) kS kN
-        (omega (arith, ints, i, k))))
-        (λ k. ⊎_elim
-        (λ (k : q.north ≤ℤ p.v).
-        ⊎_elim (λ x. inr (inr (inl x))) (λ y. ⊎_elim (λ x. inr (inl x)) (λ x. inr (inr (inr x))) y)
-        (near dn N de E dw W ds S hn he hw (weaken hs) kN (omega (arith, ints, k)) kE kW
-        (omega (arith, ints, i, k))))
-        (λ (k : p.u ≤ℤ q.west).
-        ⊎_elim (λ x. inr (inr (inr x))) (λ y. ⊎_elim (λ x. inr (inr (inl x))) (λ x. inl x) y)
-        (near dw W dn N ds S de E hw hn hs (weaken he) kW (omega (arith, ints, k)) kN kS
-        (omega (arith, ints, i, k))))
-        k) k) f.1
+        (λ (k : p.v ≤ℤ q.south). ⊎_elim (λ x. inl x) (⊎_elim (λ x. inr (inr (inr x))) (λ x. inr (inl x)))
+        (some_beside p f.0 South West East North (omega (arith, ints, k)) (omega (arith, ints, i, k))))
+        (⊎_elim
+        (λ (k : q.east ≤ℤ p.u). ⊎_elim (λ x. inr (inl x)) (⊎_elim (λ x. inl x) (λ x. inr (inr (inl x))))
+        (some_beside p f.0 East South North West (omega (arith, ints, k)) (omega (arith, ints, i, k))))
+        (⊎_elim
+        (λ (k : q.north ≤ℤ p.v). ⊎_elim (λ x. inr (inr (inl x))) (⊎_elim (λ x. inr (inl x)) (λ x. inr (inr (inr x))))
+        (some_beside p f.0 North East West South (omega (arith, ints, k)) (omega (arith, ints, i, k))))
+        (λ (k : p.u ≤ℤ q.west). ⊎_elim (λ x. inr (inr (inr x))) (⊎_elim (λ x. inr (inr (inl x))) (λ x. inl x))
+        (some_beside p f.0 West North South East (omega (arith, ints, k)) (omega (arith, ints, i, k)))))) f.1
 
     -- what tiles the four sectors tiles the frame
     pub frame_tiles : {A : Type 0} (at : A → Point) (s e n w : List (Triple A))
-        → Tiling at SouthSector OpenSouth s
-        → Tiling at EastSector OpenEast e → Tiling at NorthSector OpenNorth n
-        → Tiling at WestSector OpenWest w
+        → Tiling at (SectorOf South) (OpenSectorOf South) s → Tiling at (SectorOf East) (OpenSectorOf East) e
+        → Tiling at (SectorOf North) (OpenSectorOf North) n → Tiling at (SectorOf West) (OpenSectorOf West) w
         → Tiling at InFrame InsideFrame (s ++ (e ++ (n ++ w)))
     frame_tiles at s e n w hs he hn hw =
-        let t = tiling_union at SouthSector OpenSouth (λ p. EastSector p ⊎ (NorthSector p ⊎ WestSector p))
-        (λ p. OpenEast p ⊎ (OpenNorth p ⊎ OpenWest p)) s (e ++ (n ++ w)) hs
-        (tiling_union at EastSector OpenEast (λ p. NorthSector p ⊎ WestSector p)
-        (λ p. OpenNorth p ⊎ OpenWest p) e
-        (n ++ w) he
-        (tiling_union at NorthSector OpenNorth WestSector OpenWest n w hn hw
+        let t = tiling_union at (SectorOf South) (OpenSectorOf South)
+        (λ p. SectorOf East p ⊎ (SectorOf North p ⊎ SectorOf West p))
+        (λ p. OpenSectorOf East p ⊎ (OpenSectorOf North p ⊎ OpenSectorOf West p)) s (e ++ (n ++ w)) hs
+        (tiling_union at (SectorOf East) (OpenSectorOf East) (λ p. SectorOf North p ⊎ SectorOf West p)
+        (λ p. OpenSectorOf North p ⊎ OpenSectorOf West p) e (n ++ w) he
+        (tiling_union at (SectorOf North) (OpenSectorOf North) (SectorOf West) (OpenSectorOf West) n w hn hw
         (λ p x y. omega (arith, ints, x.second, y.first)))
         (λ p x. ⊎_elim (λ y. omega (arith, ints, x.second, y.first))
         (λ y. omega (arith, ints, x.below, y.below, i))))
         (λ p x. ⊎_elim (λ y. omega (arith, ints, x.second, y.first))
         (⊎_elim (λ y. omega (arith, ints, x.below, y.below, i))
         (λ y. omega (arith, ints, x.first, y.second)))) in
-        tiling_same at Some (λ p. OpenSouth p ⊎ (OpenEast p ⊎ (OpenNorth p ⊎ OpenWest p))) InFrame InsideFrame
-        (s ++ (e ++ (n ++ w)))
-        (λ p. ⊎_elim (south_in p) (⊎_elim (east_in p) (⊎_elim (north_in p) (west_in p))))
+        tiling_same at Some
+        (λ p. OpenSectorOf South p ⊎ (OpenSectorOf East p ⊎ (OpenSectorOf North p ⊎ OpenSectorOf West p)))
+        InFrame InsideFrame (s ++ (e ++ (n ++ w)))
+        (λ p. ⊎_elim (sector_in South p)
+        (⊎_elim (sector_in East p) (⊎_elim (sector_in North p) (sector_in West p))))
         some_sector
-        (λ p. ⊎_elim (south_inside p) (⊎_elim (east_inside p) (⊎_elim (north_inside p) (west_inside p)))) t
+        (λ p. ⊎_elim (sector_inside South p)
+        (⊎_elim (sector_inside East p) (⊎_elim (sector_inside North p) (sector_inside West p)))) t

@@ -79,6 +79,20 @@ module _ {A : Type 0} (at : A → Point) (z : A → ℤ) where
     pub cross_left : (ts us vs : List (Triple A)) → Cross ts vs → Cross us vs → Cross (ts ++ us) vs
     cross_left ts us vs x y = all_append (λ t. Within at t p → Each (Agree t) vs) ts us x y
 
+    cross_front : (t : Triple A) (ts us : List (Triple A)) → (Within at t p → Each (Agree t) us) → Cross us ts
+        → Cross us (t ∷ ts)
+    cross_front t ts [] f c = tt
+    cross_front t ts (u ∷ us) f c =
+        (λ i. (λ j. sym ((f j).0 i), c.0 i), cross_front t ts us (λ j. (f j).1) c.1)
+
+    cross_none : (us : List (Triple A)) → Cross us []
+    cross_none [] = tt
+    cross_none (u ∷ us) = (λ i. tt, cross_none us)
+
+    pub cross_sym : (ts us : List (Triple A)) → Cross ts us → Cross us ts
+    cross_sym [] us c = cross_none us
+    cross_sym (t ∷ ts) us c = cross_front t ts us c.0 (cross_sym ts us c.1)
+
     -- ---- levels
     pub levels_agree : (m l : ℤ) (t u : Triple A) → pos 0 <ℤ m → AtLevel m l t → AtLevel m l u → Agree t u
     levels_agree m l t u hm h k =

@@ -2,6 +2,7 @@ pub mod Turns
 pub mod Tilings
 pub mod Sweeps
 pub mod Moves
+pub mod Sides
 pub mod Frames
 pub mod Lines
 pub mod Rings
@@ -17,6 +18,7 @@ pub mod Heights
 pub mod Edges
 pub mod SweepHeights
 pub mod StripHeights
+pub mod SectorHeights
 pub mod StripFrames
 pub mod FrameHeights
 pub mod FanHeights

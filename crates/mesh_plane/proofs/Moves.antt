@@ -52,6 +52,9 @@ module _ {A B : Type 0} (from : A → Point) (to : B → Point) (f : Triple A �
     once = λ p. moved_once p ts (h.once (back p));
   }
 
+pub same_alike : {A : Type 0} (at : A → Point) → Alike at at (λ t. t) (λ p. p)
+same_alike at = record { ccw = λ t h. h; out = λ t p h. h; into = λ t p h. h; inside = λ t p h. h }
+
 -- ---- one corner on
 abbrev pub shifted : {A : Type 0} → Triple A → Triple A
 shifted t = record { a = t.c; b = t.a; c = t.b }

@@ -1,6 +1,6 @@
 -- The triangles of a tiling of the tile lie on the tile.
-use Rattle.std.proofs.Common.{◌≡◌, arith, List, [], ◌∷◌, map, inl, inr}
-use Rattle.std.specs.Prelude.{ℤ, pos, ◌*ℤ◌, All}
+use Rattle.std.proofs.Common.{arith, List, [], ◌∷◌, map, inl, inr}
+use Rattle.std.specs.Prelude.{ℤ, pos, All}
 use Rattle.std.specs.List.{AllByRecursion}
 use Rattle.std.proofs.lemmas.Int.{ints}
 use Rattle.mesh_plane.specs.Plane.{Point, IsOnTile, IsTileTri}

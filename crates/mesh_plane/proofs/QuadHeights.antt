@@ -11,7 +11,7 @@ use Rattle.mesh_plane.specs.Quadtree.{line_of, Midpoints, leaf_ring, leaf, small
 use Rattle.mesh_plane.proofs.Tilings.{Tiling}
 use Rattle.mesh_plane.proofs.Moves.{shifted}
 use Rattle.mesh_plane.proofs.Sweeps.{sweep}
-use Rattle.mesh_plane.proofs.Lines.{reach, no_reach}
+use Rattle.mesh_plane.proofs.Sides.{reach, no_reach}
 use Rattle.mesh_plane.proofs.Heights.{OneLevel, Cross, cross_when, cross_through, four_levels}
 use Rattle.mesh_plane.proofs.Edges.{Edge, Shows, shows_left, shows_right, shows_both, shows_first, shows_second, line_crosses, chain, chain_append, fan_shows, meets_a, meets_b, meets_c}
 use Rattle.mesh_plane.proofs.SweepHeights.{sweep_one, one_moved, shifted_same}

@@ -14,8 +14,8 @@ use Rattle.mesh_plane.proofs.Turns.{turned_back}
 use Rattle.mesh_plane.proofs.Tilings.{Tiling, tiling_union, tiling_same}
 use Rattle.mesh_plane.proofs.Moves.{tiling_moved, shifted, shifted_alike}
 use Rattle.mesh_plane.proofs.Sweeps.{Goes, Moves, Band, OpenBand, sweep, sweep_tiles}
-use Rattle.mesh_plane.proofs.Lines.{reach, no_reach, goes}
-use Rattle.mesh_plane.proofs.Strips.{goes_same}
+use Rattle.mesh_plane.proofs.Sides.{reach, no_reach}
+use Rattle.mesh_plane.proofs.Lines.{goes, goes_same}
 use Rattle.mesh_plane.proofs.StripProof.{left_in, left_out, strictly_out}
 use Rattle.mesh_plane.proofs.Rings.{fan_tiles}
 

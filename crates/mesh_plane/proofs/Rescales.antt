@@ -1,14 +1,14 @@
 -- The law of heights in another unit.
-use Rattle.std.proofs.Common.{◌≡◌, ℕ, refl, ap, sym, arith, ◌∙◌, List, [], ◌∷◌, map, inl, inr}
-use Rattle.std.specs.Prelude.{ℤ, pos, ◌+ℤ◌, ◌*ℤ◌, ◌≤ℤ◌, ◌⊎◌, All, Any, AllPairs}
+use Rattle.std.proofs.Common.{◌≡◌, ℕ, refl, ap, arith, ◌∙◌, List, [], ◌∷◌, map, inl, inr}
+use Rattle.std.specs.Prelude.{ℤ, pos, ◌+ℤ◌, ◌*ℤ◌, ◌≤ℤ◌, ◌⊎◌, Any}
 use Rattle.std.specs.List.{AllByRecursion}
 use Rattle.std.proofs.lemmas.Int.{ints}
-use Rattle.polynomial.proofs.Expressions.{Expr, var, add, mul}
+use Rattle.polynomial.proofs.Expressions.{var, add, mul}
 use Rattle.polynomial.proofs.NormalForm.{by_ring}
 use Rattle.mesh_plane.specs.declared.corner.Tri.{Tri}
 use Rattle.mesh_plane.specs.Plane.{Point, side_of, doubled_area, IsCounterClockwise, TriangleHolds, TriangleHoldsInside, IsOnTile, IsTileTri}
 use Rattle.mesh_plane.specs.Surface.{lift_of, SameHeight}
-use Rattle.mesh_plane.specs.Cover.{Covers, HeldOnce, OneHeight}
+use Rattle.mesh_plane.specs.Cover.{HeldOnce, OneHeight}
 use Rattle.mesh_plane.specs.Triangles.{Triple}
 use Rattle.mesh_plane.specs.Rescale.{vertex_by, tri_by, RescaleLaw}
 use Rattle.mesh_plane.proofs.Heights.{cancelled}

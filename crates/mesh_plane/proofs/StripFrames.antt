@@ -10,9 +10,11 @@ use Rattle.mesh_plane.specs.Fan.{Rect, InRect, InsideRect}
 use Rattle.mesh_plane.specs.Strip.{across, IsOutside, Ascend}
 use Rattle.mesh_plane.proofs.Turns.{turn, turned_back}
 use Rattle.mesh_plane.proofs.Tilings.{Tiling, tiling_append, tiling_same}
-use Rattle.mesh_plane.proofs.Lines.{reach}
-use Rattle.mesh_plane.proofs.Strips.{depth, lean, InBand, InsideBand, strip_tiles}
-use Rattle.mesh_plane.proofs.Frames.{Sector, OpenSector, SouthSector, EastSector, NorthSector, WestSector, OpenSouth, OpenEast, OpenNorth, OpenWest, InFrame, InsideFrame, IsInner, frame_tiles, south_west_turn, south_east_turn, north_east_turn, north_west_turn}
+use Rattle.mesh_plane.proofs.Moves.{swapped, turn_swapped}
+use Rattle.mesh_plane.proofs.Sides.{before, border, start_of, inset, gap}
+use Rattle.mesh_plane.proofs.Lines.{band_sector}
+use Rattle.mesh_plane.proofs.Strips.{lean, InBand, InsideBand, strip_tiles}
+use Rattle.mesh_plane.proofs.Frames.{SectorBetween, OpenSectorBetween, SectorOf, OpenSectorOf, InFrame, InsideFrame, IsInner, is_outside, corner_turn, frame_tiles}
 
 -- the eight corners of a frame
 pub record Corners (A : Type 0) : Type 0 where
@@ -44,46 +46,89 @@ pub record Runs {A : Type 0} (at : A
   pub outer_to : outer_end o (t ∷ steps) ≡ o'
   pub inner_to : inner_end n (t ∷ steps) ≡ n'
 
-module _ {A : Type 0} (at : A → Point) where
-  -- what lies between the lines and the ends of a strip, as a sector
-  band_sector : (side : Side) (outer inner a b : ℤ) (A₁ B₁ : Point
-      → ℤ) (o n o' n' : Point) (ts : List (Triple A))
-      → ((p : Point) → lean side o n p ≡ a *ℤ reach side outer p -ℤ depth side outer inner *ℤ A₁ p)
-      → ((p : Point) → lean side o' n' p ≡ depth side outer inner *ℤ B₁ p -ℤ b *ℤ reach side outer p)
-      → Tiling at (InBand side outer inner o n o' n') (InsideBand side outer inner o n o' n') ts
-      → Tiling at (λ p. Sector (depth side outer inner) (reach side outer p) a (A₁ p) b (B₁ p))
-      (λ p. OpenSector (depth side outer inner) (reach side outer p) a (A₁ p) b (B₁ p)) ts
-  band_sector side outer inner a b A₁ B₁ o n o' n' ts f g t =
-      tiling_same at (InBand side outer inner o n o' n') (InsideBand side outer inner o n o' n')
-      (λ p. Sector (depth side outer inner) (reach side outer p) a (A₁ p) b (B₁ p))
-      (λ p. OpenSector (depth side outer inner) (reach side outer p) a (A₁ p) b (B₁ p)) ts
-      (λ p i. record {
-        above = i.above;
-        below = i.below;
-        first = omega (arith, ints, f p, i.first);
-        second = omega (arith, ints, g p, i.last);
-      })
-      (λ p i. record {
-        above = i.above;
-        below = i.below;
-        first = omega (arith, ints, f p, i.first);
-        last = omega (arith, ints, g p, i.second);
-      })
-      (λ p i. record {
-        above = i.above;
-        below = i.below;
-        first = omega (arith, ints, f p, i.first);
-        second = omega (arith, ints, g p, i.last);
-      })
-      t
+-- the corners where a side of a frame begins, counter-clockwise
+abbrev pub outer_corner : {A : Type 0} → Corners A → Side → A
+outer_corner k South = k.south_west
+outer_corner k East = k.south_east
+outer_corner k North = k.north_east
+outer_corner k West = k.north_west
 
+abbrev pub inner_corner : {A : Type 0} → Corners A → Side → A
+inner_corner k South = k.inner_south_west
+inner_corner k East = k.inner_south_east
+inner_corner k North = k.inner_north_east
+inner_corner k West = k.inner_north_west
+
+-- a strip runs eastwards or northwards: from where the side `run_from` begins to where `run_to` does
+abbrev pub run_from : Side → Side
+run_from South = South
+run_from East = East
+run_from North = West
+run_from West = South
+
+abbrev pub run_to : Side → Side
+run_to South = East
+run_to East = North
+run_to North = North
+run_to West = West
+
+-- the sides next to it there
+abbrev beside_from : Side → Side
+beside_from South = West
+beside_from East = South
+beside_from North = West
+beside_from West = South
+
+abbrev beside_to : Side → Side
+beside_to South = East
+beside_to East = North
+beside_to North = East
+beside_to West = North
+
+pub from_across : (side : Side) (r : Rect) → across side (start_of (run_from side) r) ≡ border side r
+from_across South r = refl
+from_across East r = refl
+from_across North r = refl
+from_across West r = refl
+
+-- a turn where u and v are exchanged
+exchanged_turn : (r q : Rect) (side : Side) (p : Point)
+    → turn (swapped (start_of side r)) (swapped (start_of side q)) (swapped p)
+    ≡ gap r q side *ℤ inset r (before side) p -ℤ gap r q (before side) *ℤ inset r side p
+exchanged_turn r q side p =
+    omega (
+      arith,
+      ints,
+      turn_swapped (start_of side r) (start_of side q) p,
+      turned_back (start_of side r) (start_of side q) p,
+      corner_turn r q side p,
+    )
+
+-- the turns about the ends of a strip
+lean_from : (r q : Rect) (side : Side) (p : Point)
+    → lean side (start_of (run_from side) r) (start_of (run_from side) q) p
+    ≡ gap r q (beside_from side) *ℤ inset r side p -ℤ gap r q side *ℤ inset r (beside_from side) p
+lean_from r q South p = corner_turn r q South p
+lean_from r q East p = corner_turn r q East p
+lean_from r q North p = exchanged_turn r q West p
+lean_from r q West p = exchanged_turn r q South p
+
+lean_to : (r q : Rect) (side : Side) (p : Point)
+    → lean side (start_of (run_to side) r) (start_of (run_to side) q) p
+    ≡ gap r q side *ℤ inset r (beside_to side) p -ℤ gap r q (beside_to side) *ℤ inset r side p
+lean_to r q South p = corner_turn r q East p
+lean_to r q East p = corner_turn r q North p
+lean_to r q North p = exchanged_turn r q North p
+lean_to r q West p = exchanged_turn r q West p
+
+module _ {A : Type 0} (at : A → Point) where
   -- the two neighbours of a side, the other way round
-  sector_swapped : (d a b : ℤ) (x A₁ B₁ : Point → ℤ) (ts : List (Triple A))
-      → Tiling at (λ p. Sector d (x p) a (A₁ p) b (B₁ p)) (λ p. OpenSector d (x p) a (A₁ p) b (B₁ p)) ts
-      → Tiling at (λ p. Sector d (x p) b (B₁ p) a (A₁ p)) (λ p. OpenSector d (x p) b (B₁ p) a (A₁ p)) ts
-  sector_swapped d a b x A₁ B₁ ts t =
-      tiling_same at (λ p. Sector d (x p) a (A₁ p) b (B₁ p)) (λ p. OpenSector d (x p) a (A₁ p) b (B₁ p))
-      (λ p. Sector d (x p) b (B₁ p) a (A₁ p)) (λ p. OpenSector d (x p) b (B₁ p) a (A₁ p)) ts
+  sector_swapped : (r q : Rect) (side back ahead : Side) (ts : List (Triple A))
+      → Tiling at (SectorBetween r q side back ahead) (OpenSectorBetween r q side back ahead) ts
+      → Tiling at (SectorBetween r q side ahead back) (OpenSectorBetween r q side ahead back) ts
+  sector_swapped r q side back ahead ts t =
+      tiling_same at (SectorBetween r q side back ahead) (OpenSectorBetween r q side back ahead)
+      (SectorBetween r q side ahead back) (OpenSectorBetween r q side ahead back) ts
       (λ p i. record { above = i.above; below = i.below; first = i.second; second = i.first })
       (λ p i. record { above = i.above; below = i.below; first = i.second; second = i.first })
       (λ p i. record { above = i.above; below = i.below; first = i.second; second = i.first }) t
@@ -104,91 +149,62 @@ module _ {A : Type 0} (at : A → Point) where
       (strip_tiles at side outer inner o n t steps l ho hn r.ascends))
 
   module _ (r q : Rect) (i : IsInner r q) (k : Corners A) (places : AreAt at r q k) where
-    pub sw_turn : (p : Point) → turn (at k.south_west) (at k.inner_south_west) p
-        ≡ (q.west -ℤ r.west) *ℤ (p.v -ℤ r.south) -ℤ (q.south -ℤ r.south) *ℤ (p.u -ℤ r.west)
-    sw_turn p =
-        ap (λ j. turn j (at k.inner_south_west) p) places.south_west
-        ∙ ap (λ j. turn (point r.west r.south) j p) places.inner_south_west ∙ south_west_turn r q p
+    pub outer_at : (side : Side) → at (outer_corner k side) ≡ start_of side r
+    outer_at South = places.south_west
+    outer_at East = places.south_east
+    outer_at North = places.north_east
+    outer_at West = places.north_west
 
-    pub se_turn : (p : Point) → turn (at k.south_east) (at k.inner_south_east) p
-        ≡ (q.south -ℤ r.south) *ℤ (r.east -ℤ p.u) -ℤ (r.east -ℤ q.east) *ℤ (p.v -ℤ r.south)
-    se_turn p =
-        ap (λ j. turn j (at k.inner_south_east) p) places.south_east
-        ∙ ap (λ j. turn (point r.east r.south) j p) places.inner_south_east ∙ south_east_turn r q p
+    pub inner_at : (side : Side) → at (inner_corner k side) ≡ start_of side q
+    inner_at South = places.inner_south_west
+    inner_at East = places.inner_south_east
+    inner_at North = places.inner_north_east
+    inner_at West = places.inner_north_west
 
-    pub ne_turn : (p : Point) → turn (at k.north_east) (at k.inner_north_east) p
-        ≡ (r.east -ℤ q.east) *ℤ (r.north -ℤ p.v) -ℤ (r.north -ℤ q.north) *ℤ (r.east -ℤ p.u)
-    ne_turn p =
-        ap (λ j. turn j (at k.inner_north_east) p) places.north_east
-        ∙ ap (λ j. turn (point r.east r.north) j p) places.inner_north_east ∙ north_east_turn r q p
+    -- the strip of a side, from corners to corners
+    abbrev pub side_list : Side → Step A → List (Step A) → List (Triple A)
+    side_list side t steps = strip side (outer_corner k (run_from side)) (inner_corner k (run_from side)) (t ∷ steps)
 
-    pub nw_turn : (p : Point) → turn (at k.north_west) (at k.inner_north_west) p
-        ≡ (r.north -ℤ q.north) *ℤ (p.u -ℤ r.west) -ℤ (q.west -ℤ r.west) *ℤ (r.north -ℤ p.v)
-    nw_turn p =
-        ap (λ j. turn j (at k.inner_north_west) p) places.north_west
-        ∙ ap (λ j. turn (point r.west r.north) j p) places.inner_north_west ∙ north_west_turn r q p
+    abbrev pub SideRuns : Side → Step A → List (Step A) → Type 0
+    SideRuns side t steps =
+        Runs at side (border side r) (border side q) (outer_corner k (run_from side)) (inner_corner k (run_from side))
+        (outer_corner k (run_to side)) (inner_corner k (run_to side)) t steps
 
-    pub south_strip : (t : Step A) (steps : List (Step A))
-        → Runs at South r.south q.south k.south_west k.inner_south_west k.south_east k.inner_south_east t
-        steps
-        → Tiling at (SouthSector r q) (OpenSouth r q)
-        (strip South k.south_west k.inner_south_west (t ∷ steps))
-    south_strip t steps run =
-        band_sector South r.south q.south (q.west -ℤ r.west) (r.east -ℤ q.east) (λ p. p.u -ℤ r.west)
-        (λ p. r.east -ℤ p.u)
-        (at k.south_west) (at k.inner_south_west) (at k.south_east) (at k.inner_south_east)
-        (strip South k.south_west k.inner_south_west (t ∷ steps)) sw_turn se_turn
-        (runs_tile South r.south q.south k.south_west k.inner_south_west k.south_east k.inner_south_east t
-        steps i.south
-        (ap (λ p. p.v) places.south_west) (ap (λ p. p.v) places.inner_south_west) run)
+    pub outer_across : (side : Side) → across side (at (outer_corner k (run_from side))) ≡ border side r
+    outer_across side = ap (across side) (outer_at (run_from side)) ∙ from_across side r
 
-    pub east_strip : (t : Step A) (steps : List (Step A))
-        → Runs at East r.east q.east k.south_east k.inner_south_east k.north_east k.inner_north_east t steps
-        → Tiling at (EastSector r q) (OpenEast r q) (strip East k.south_east k.inner_south_east (t ∷ steps))
-    east_strip t steps run =
-        band_sector East r.east q.east (q.south -ℤ r.south) (r.north -ℤ q.north) (λ p. p.v -ℤ r.south)
-        (λ p. r.north -ℤ p.v)
-        (at k.south_east) (at k.inner_south_east) (at k.north_east) (at k.inner_north_east)
-        (strip East k.south_east k.inner_south_east (t ∷ steps)) se_turn ne_turn
-        (runs_tile East r.east q.east k.south_east k.inner_south_east k.north_east k.inner_north_east t steps
-        i.east
-        (ap (λ p. p.u) places.south_east) (ap (λ p. p.u) places.inner_south_east) run)
+    pub inner_across : (side : Side) → across side (at (inner_corner k (run_from side))) ≡ border side q
+    inner_across side = ap (across side) (inner_at (run_from side)) ∙ from_across side q
 
-    pub north_strip : (t : Step A) (steps : List (Step A))
-        → Runs at North r.north q.north k.north_west k.inner_north_west k.north_east k.inner_north_east t
-        steps
-        → Tiling at (NorthSector r q) (OpenNorth r q)
-        (strip North k.north_west k.inner_north_west (t ∷ steps))
-    north_strip t steps run =
-        let ts = strip North k.north_west k.inner_north_west (t ∷ steps) in
-        sector_swapped (r.north -ℤ q.north) (q.west -ℤ r.west) (r.east -ℤ q.east) (λ p. r.north -ℤ p.v)
-        (λ p. p.u -ℤ r.west)
-        (λ p. r.east -ℤ p.u) ts
-        (band_sector North r.north q.north (q.west -ℤ r.west) (r.east -ℤ q.east) (λ p. p.u -ℤ r.west)
-        (λ p. r.east -ℤ p.u)
-        (at k.north_west) (at k.inner_north_west) (at k.north_east) (at k.inner_north_east) ts
-        (λ p. omega (arith, ints, nw_turn p, turned_back (at k.north_west) (at k.inner_north_west) p))
-        (λ p. omega (arith, ints, ne_turn p, turned_back (at k.north_east) (at k.inner_north_east) p))
-        (runs_tile North r.north q.north k.north_west k.inner_north_west k.north_east k.inner_north_east t
-        steps i.north
-        (ap (λ p. p.v) places.north_west) (ap (λ p. p.v) places.inner_north_west) run))
+    lean_at : (side corner : Side) (p : Point) → lean side (at (outer_corner k corner)) (at (inner_corner k corner)) p
+        ≡ lean side (start_of corner r) (start_of corner q) p
+    lean_at side corner p =
+        ap (λ j. lean side j (at (inner_corner k corner)) p) (outer_at corner)
+        ∙ ap (λ j. lean side (start_of corner r) j p) (inner_at corner)
 
-    pub west_strip : (t : Step A) (steps : List (Step A))
-        → Runs at West r.west q.west k.south_west k.inner_south_west k.north_west k.inner_north_west t steps
-        → Tiling at (WestSector r q) (OpenWest r q) (strip West k.south_west k.inner_south_west (t ∷ steps))
-    west_strip t steps run =
-        let ts = strip West k.south_west k.inner_south_west (t ∷ steps) in
-        sector_swapped (q.west -ℤ r.west) (q.south -ℤ r.south) (r.north -ℤ q.north) (λ p. p.u -ℤ r.west)
-        (λ p. p.v -ℤ r.south)
-        (λ p. r.north -ℤ p.v) ts
-        (band_sector West r.west q.west (q.south -ℤ r.south) (r.north -ℤ q.north) (λ p. p.v -ℤ r.south)
-        (λ p. r.north -ℤ p.v)
-        (at k.south_west) (at k.inner_south_west) (at k.north_west) (at k.inner_north_west) ts
-        (λ p. omega (arith, ints, sw_turn p, turned_back (at k.south_west) (at k.inner_south_west) p))
-        (λ p. omega (arith, ints, nw_turn p, turned_back (at k.north_west) (at k.inner_north_west) p))
-        (runs_tile West r.west q.west k.south_west k.inner_south_west k.north_west k.inner_north_west t steps
-        i.west
-        (ap (λ p. p.u) places.south_west) (ap (λ p. p.u) places.inner_south_west) run))
+    -- the neighbours of a north or west strip the other way round
+    ordered : (side : Side) (ts : List (Triple A))
+        → Tiling at (SectorBetween r q side (beside_from side) (beside_to side))
+        (OpenSectorBetween r q side (beside_from side) (beside_to side)) ts
+        → Tiling at (SectorOf r q side) (OpenSectorOf r q side) ts
+    ordered South ts t = t
+    ordered East ts t = t
+    ordered North ts t = sector_swapped r q North West East ts t
+    ordered West ts t = sector_swapped r q West South North ts t
+
+    -- a strip tiles the sector of its side
+    pub side_strip : (side : Side) (t : Step A) (steps : List (Step A)) → SideRuns side t steps
+        → Tiling at (SectorOf r q side) (OpenSectorOf r q side) (side_list side t steps)
+    side_strip side t steps run =
+        let from = run_from side in let to = run_to side in
+        ordered side (side_list side t steps)
+        (band_sector at (inset r side) (inset r (beside_from side)) (inset r (beside_to side))
+        (lean side (at (outer_corner k from)) (at (inner_corner k from)))
+        (lean side (at (outer_corner k to)) (at (inner_corner k to)))
+        (gap r q side) (gap r q (beside_from side)) (gap r q (beside_to side)) (side_list side t steps)
+        (λ p. lean_at side from p ∙ lean_from r q side p) (λ p. lean_at side to p ∙ lean_to r q side p)
+        (runs_tile side (border side r) (border side q) (outer_corner k from) (inner_corner k from) (outer_corner k to)
+        (inner_corner k to) t steps (is_outside r q i side) (outer_across side) (inner_across side) run))
 
     joined : (s e n w qs : List (Triple A)) → (s ++ (e ++ (n ++ w))) ++ qs ≡ s ++ (e ++ (n ++ (w ++ qs)))
     joined s e n w qs =
@@ -201,9 +217,10 @@ module _ {A : Type 0} (at : A → Point) where
         split (x ∷ xs) ys = ap (λ (ts : List (Triple A)). x ∷ ts) (split xs ys)
 
     -- four strips and the inner rectangle
-    pub framed : (s e n w qs : List (Triple A)) → Tiling at (SouthSector r q) (OpenSouth r q) s
-        → Tiling at (EastSector r q) (OpenEast r q) e
-        → Tiling at (NorthSector r q) (OpenNorth r q) n → Tiling at (WestSector r q) (OpenWest r q) w
+    pub framed : (s e n w qs : List (Triple A)) → Tiling at (SectorOf r q South) (OpenSectorOf r q South) s
+        → Tiling at (SectorOf r q East) (OpenSectorOf r q East) e
+        → Tiling at (SectorOf r q North) (OpenSectorOf r q North) n
+        → Tiling at (SectorOf r q West) (OpenSectorOf r q West) w
         → Tiling at (InRect q) (InsideRect q) qs
         → Tiling at (InRect r) (InsideRect r) (s ++ (e ++ (n ++ (w ++ qs))))
     framed s e n w qs hs he hn hw hq =

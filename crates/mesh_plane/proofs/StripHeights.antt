@@ -12,13 +12,13 @@ use Rattle.mesh_plane.specs.Triangles.{Triple, Step, Outer, Inner, cornered, str
 use Rattle.mesh_plane.specs.Strip.{across, IsOutside, Ascend}
 use Rattle.mesh_plane.proofs.Turns.{turn, turned_back}
 use Rattle.mesh_plane.proofs.Tilings.{IsCcw, area, Held}
-use Rattle.mesh_plane.proofs.Moves.{swapped, flipped, turn_swapped}
+use Rattle.mesh_plane.proofs.Moves.{swapped, turn_swapped}
 use Rattle.mesh_plane.proofs.Sweeps.{sweep}
-use Rattle.mesh_plane.proofs.Lines.{reach, no_reach}
-use Rattle.mesh_plane.proofs.Strips.{depth, depth_above, mirror, south_is, east_is, north_is, west_is, south_moves, east_moves, north_ascend, west_ascend}
+use Rattle.mesh_plane.proofs.Sides.{reach, depth, depth_above}
+use Rattle.mesh_plane.proofs.Strips.{seen, faced, rise, seen_at, strip_is, no_rise, full_rise, strip_moves}
 use Rattle.mesh_plane.proofs.Heights.{OneLevel, Cross, cross_when, one_append, cross_right}
 use Rattle.mesh_plane.proofs.Edges.{On, Meets, meets_a, meets_b, meets_c, HasEdge, edge_cross, Shows, shows_on, chain}
-use Rattle.mesh_plane.proofs.SweepHeights.{sweep_one, one_moved, flipped_same}
+use Rattle.mesh_plane.proofs.SweepHeights.{SameHeights, sweep_one, one_moved, unmoved_same, flipped_same}
 
 -- the points of each line, in their order
 abbrev pub outers : {A : Type 0} → List (Step A) → List A
@@ -67,7 +67,7 @@ module _ (a b p : Point) where
         ∙ ap (λ i. (w -ℤ (p.v -ℤ a.v)) *ℤ a.v +ℤ (p.v -ℤ a.v) *ℤ i) (omega (arith, ints, e));
   }
 
-on_flip : (a b p : Point) (α β : ℤ) → On b a p β α → On a b p α β
+on_flip : (a b p : Point) (α β : ℤ) → On a b p β α → On b a p α β
 on_flip a b p α β o =
     let e : α +ℤ β ≡ β +ℤ α = omega (arith, ints) in
     record {
@@ -85,110 +85,83 @@ on_swapped a b p α β o = record { from = o.from; to = o.to; some = o.some; u =
 abbrev pub IsOn : Point → Point → Point → Type 0
 IsOn a b p = (α : ℤ) × (β : ℤ) × On a b p α β
 
--- what lies between the lines of a strip, and on the line through a on the outer and b on the inner one,
--- lies on the
+pub is_on_swapped : (a b p : Point) → IsOn (swapped a) (swapped b) (swapped p) → IsOn a b p
+is_on_swapped a b p o = (o.0, o.1, on_swapped a b p o.0 o.1 o.2)
+
+-- what lies between the lines of a strip, and on the line through a on the outer and b on the inner one, lies on the
 -- segment that joins them
-pub segment_on : (side : Side) (outer inner : ℤ) (a b p : Point) → IsOutside side outer inner
-    → across side a ≡ outer
-    → across side b ≡ inner → turn a b p ≡ pos 0 → pos 0 ≤ℤ reach side outer p
-    → reach side outer p ≤ℤ depth side outer inner
-    → IsOn a b p
-segment_on South outer inner a b p l ea eb t k m = (
+south_on : (outer inner : ℤ) (a b p : Point) → outer <ℤ inner → a.v ≡ outer → b.v ≡ inner → turn a b p ≡ pos 0
+    → outer ≤ℤ p.v → p.v ≤ℤ inner → IsOn a b p
+south_on outer inner a b p l ea eb t k m = (
   inner -ℤ outer -ℤ (p.v -ℤ a.v),
   p.v -ℤ a.v,
   rising_on a b p (inner -ℤ outer) (omega (arith, ints, l)) (omega (arith, ints, ea, eb)) t
       (omega (arith, ints, ea, k)) (omega (arith, ints, ea, m)),
 )
-segment_on West outer inner a b p l ea eb t k m = (
-  inner -ℤ outer -ℤ (p.u -ℤ a.u),
-  p.u -ℤ a.u,
-  on_swapped a b p (inner -ℤ outer -ℤ (p.u -ℤ a.u)) (p.u -ℤ a.u)
-      (rising_on (swapped a) (swapped b) (swapped p) (inner -ℤ outer) (omega (arith, ints, l))
-      (omega (arith, ints, ea, eb))
-      (omega (arith, ints, t, turn_swapped a b p, turned_back a b p)) (omega (arith, ints, ea, k))
-      (omega (arith, ints, ea, m))),
-)
-segment_on North outer inner a b p l ea eb t k m = (
-  p.v -ℤ b.v,
-  outer -ℤ inner -ℤ (p.v -ℤ b.v),
-  on_flip a b p (p.v -ℤ b.v) (outer -ℤ inner -ℤ (p.v -ℤ b.v))
-      (rising_on b a p (outer -ℤ inner) (omega (arith, ints, l)) (omega (arith, ints, ea, eb))
-      (omega (arith, ints, t, turned_back a b p)) (omega (arith, ints, eb, m)) (omega (arith, ints, eb, k))),
-)
-segment_on East outer inner a b p l ea eb t k m = (
-  p.u -ℤ b.u,
-  outer -ℤ inner -ℤ (p.u -ℤ b.u),
-  on_flip a b p (p.u -ℤ b.u) (outer -ℤ inner -ℤ (p.u -ℤ b.u))
-      (on_swapped b a p (outer -ℤ inner -ℤ (p.u -ℤ b.u)) (p.u -ℤ b.u)
-      (rising_on (swapped b) (swapped a) (swapped p) (outer -ℤ inner) (omega (arith, ints, l))
-      (omega (arith, ints, ea, eb))
-      (omega (arith, ints, t, turn_swapped b a p)) (omega (arith, ints, eb, m))
-      (omega (arith, ints, eb, k)))),
-)
+
+north_on : (outer inner : ℤ) (a b p : Point) → inner <ℤ outer → a.v ≡ outer → b.v ≡ inner → turn a b p ≡ pos 0
+    → inner ≤ℤ p.v → p.v ≤ℤ outer → IsOn a b p
+north_on outer inner a b p l ea eb t k m =
+    let on = south_on inner outer b a p l eb ea (omega (arith, ints, t, turned_back a b p)) k m in
+    (on.1, on.0, on_flip b a p on.1 on.0 on.2)
+
+pub segment_on : (side : Side) (outer inner : ℤ) (a b p : Point) → IsOutside side outer inner
+    → across side a ≡ outer
+    → across side b ≡ inner → turn a b p ≡ pos 0 → pos 0 ≤ℤ reach side outer p
+    → reach side outer p ≤ℤ depth side outer inner
+    → IsOn a b p
+segment_on South outer inner a b p l ea eb t k m =
+    south_on outer inner a b p l ea eb t (omega (arith, ints, k)) (omega (arith, ints, m))
+segment_on North outer inner a b p l ea eb t k m =
+    north_on outer inner a b p l ea eb t (omega (arith, ints, m)) (omega (arith, ints, k))
+segment_on West outer inner a b p l ea eb t k m =
+    is_on_swapped a b p
+    (south_on outer inner (swapped a) (swapped b) (swapped p) l ea eb
+    (omega (arith, ints, t, turn_swapped a b p, turned_back a b p)) (omega (arith, ints, k)) (omega (arith, ints, m)))
+segment_on East outer inner a b p l ea eb t k m =
+    is_on_swapped a b p
+    (north_on outer inner (swapped a) (swapped b) (swapped p) l ea eb
+    (omega (arith, ints, t, turn_swapped a b p, turned_back a b p)) (omega (arith, ints, m)) (omega (arith, ints, k)))
 
 module _ {A : Type 0} (at : A → Point) (z : A → ℤ) where
   -- ---- one height
+  faced_same : (side : Side) → SameHeights (seen_at at side) at z (faced side) (seen side)
+  faced_same South = unmoved_same at z
+  faced_same East = unmoved_same at z
+  faced_same North = flipped_same at z
+  faced_same West = flipped_same at z
+
   pub strip_one : (p : Point) (side : Side) (outer inner : ℤ) (o n : A) (t : Step A) (steps : List (Step A))
       → IsOutside side outer inner
       → across side (at o) ≡ outer → across side (at n) ≡ inner → Ascend at side outer inner o n (t ∷ steps)
       → OneLevel at z p (strip side o n (t ∷ steps))
-  strip_one p South outer inner o n t steps l ho hn s =
-      subst (λ (ts : List (Triple A)). OneLevel at z p ts) (south_is at o n (t ∷ steps))
-      (sweep_one at z p (reach South outer) (depth South outer inner) o n t steps
-      (depth_above South outer inner l)
-      (no_reach South outer (at o) ho) (ap (λ i. i -ℤ outer) hn)
-      (south_moves at outer inner o n (t ∷ steps) ho hn s))
-  strip_one p East outer inner o n t steps l ho hn s =
-      subst (λ (ts : List (Triple A)). OneLevel at z p ts) (east_is at o n (t ∷ steps))
-      (sweep_one at z p (reach East outer) (depth East outer inner) o n t steps
-      (depth_above East outer inner l)
-      (no_reach East outer (at o) ho) (ap (λ i. outer -ℤ i) hn)
-      (east_moves at outer inner o n (t ∷ steps) ho hn s))
-  strip_one p North outer inner o n t steps l ho hn s =
-      subst (λ (ts : List (Triple A)). OneLevel at z p ts) (north_is at o n (t ∷ steps))
-      (one_moved (mirror at) at z flipped swapped (flipped_same at z) p (sweep (mirror at) o n (t ∷ steps))
-      (sweep_one (mirror at) z (swapped p) (reach East outer) (depth East outer inner) o n t steps
-      (depth_above East outer inner l)
-      (no_reach East outer (mirror at o) ho) (ap (λ i. outer -ℤ i) hn)
-      (east_moves (mirror at) outer inner o n (t ∷ steps) ho hn
-      (north_ascend at outer inner o n (t ∷ steps) s))))
-  strip_one p West outer inner o n t steps l ho hn s =
-      subst (λ (ts : List (Triple A)). OneLevel at z p ts) (west_is at o n (t ∷ steps))
-      (one_moved (mirror at) at z flipped swapped (flipped_same at z) p (sweep (mirror at) o n (t ∷ steps))
-      (sweep_one (mirror at) z (swapped p) (reach South outer) (depth South outer inner) o n t steps
-      (depth_above South outer inner l)
-      (no_reach South outer (mirror at o) ho) (ap (λ i. i -ℤ outer) hn)
-      (south_moves (mirror at) outer inner o n (t ∷ steps) ho hn
-      (west_ascend at outer inner o n (t ∷ steps) s))))
+  strip_one p side outer inner o n t steps l ho hn s =
+      subst (λ (ts : List (Triple A)). OneLevel at z p ts) (strip_is at side o n (t ∷ steps))
+      (one_moved (seen_at at side) at z (faced side) (seen side) (faced_same side) p
+      (sweep (seen_at at side) o n (t ∷ steps))
+      (sweep_one (seen_at at side) z (seen side p) (rise side outer) (depth side outer inner) o n t steps
+      (depth_above side outer inner l) (no_rise at side outer inner o ho) (full_rise at side outer inner n hn)
+      (strip_moves at side outer inner o n (t ∷ steps) ho hn s)))
 
   -- ---- edges
-  meets_o : (side : Side) (o n x : A) → pos 0 <ℤ area at (cornered side o n x)
-      → Meets at z (cornered side o n x) o
-  meets_o South o n x h = meets_a at z (cornered South o n x) h
-  meets_o East o n x h = meets_a at z (cornered East o n x) h
-  meets_o North o n x h = meets_a at z (cornered North o n x) h
-  meets_o West o n x h = meets_a at z (cornered West o n x) h
-
-  meets_x : (side : Side) (o n x : A) → pos 0 <ℤ area at (cornered side o n x)
-      → Meets at z (cornered side o n x) x
-  meets_x South o n x h = meets_b at z (cornered South o n x) h
-  meets_x East o n x h = meets_b at z (cornered East o n x) h
-  meets_x North o n x h = meets_c at z (cornered North o n x) h
-  meets_x West o n x h = meets_c at z (cornered West o n x) h
-
-  meets_n : (side : Side) (o n x : A) → pos 0 <ℤ area at (cornered side o n x)
-      → Meets at z (cornered side o n x) n
-  meets_n South o n x h = meets_c at z (cornered South o n x) h
-  meets_n East o n x h = meets_c at z (cornered East o n x) h
-  meets_n North o n x h = meets_b at z (cornered North o n x) h
-  meets_n West o n x h = meets_b at z (cornered West o n x) h
+  -- a triangle of a strip meets its outer point, its inner one and the next point
+  meets_all : (side : Side) (o n x : A) → let t = cornered side o n x in
+      pos 0 <ℤ area at t → Meets at z t o × Meets at z t n × Meets at z t x
+  meets_all South o n x h =
+      let t = cornered South o n x in (meets_a at z t h, meets_c at z t h, meets_b at z t h)
+  meets_all East o n x h =
+      let t = cornered East o n x in (meets_a at z t h, meets_c at z t h, meets_b at z t h)
+  meets_all North o n x h =
+      let t = cornered North o n x in (meets_a at z t h, meets_b at z t h, meets_c at z t h)
+  meets_all West o n x h =
+      let t = cornered West o n x in (meets_a at z t h, meets_b at z t h, meets_c at z t h)
 
   module _ (side : Side) where
     pub shows_outer : (o n : A) (steps : List (Step A)) → AllByRecursion (IsCcw at) (strip side o n steps)
         → Shows at z (chain o (outers steps)) (strip side o n steps)
     shows_outer o n [] h = tt
     shows_outer o n (Outer x ∷ steps) h = (
-      inl (h.0, meets_o side o n x h.0, meets_x side o n x h.0),
+      inl (h.0, (meets_all side o n x h.0).0, (meets_all side o n x h.0).2),
       shows_on at z (chain x (outers steps)) (cornered side o n x) (strip side x n steps)
           (shows_outer x n steps h.1),
     )
@@ -203,7 +176,7 @@ module _ {A : Type 0} (at : A → Point) (z : A → ℤ) where
         shows_on at z (chain n (inners steps)) (cornered side o n x) (strip side x n steps)
         (shows_inner x n steps h.1)
     shows_inner o n (Inner x ∷ steps) h = (
-      inl (h.0, meets_n side o n x h.0, meets_x side o n x h.0),
+      inl (h.0, (meets_all side o n x h.0).1, (meets_all side o n x h.0).2),
       shows_on at z (chain x (inners steps)) (cornered side o n x) (strip side o x steps)
           (shows_inner o x steps h.1),
     )
@@ -211,14 +184,14 @@ module _ {A : Type 0} (at : A → Point) (z : A → ℤ) where
     pub first_edge : (o n : A) (t : Step A) (steps : List (Step A))
         → AllByRecursion (IsCcw at) (strip side o n (t ∷ steps))
         → HasEdge at z o n (strip side o n (t ∷ steps))
-    first_edge o n (Outer x) steps h = inl (h.0, meets_o side o n x h.0, meets_n side o n x h.0)
-    first_edge o n (Inner x) steps h = inl (h.0, meets_o side o n x h.0, meets_n side o n x h.0)
+    first_edge o n (Outer x) steps h = inl (h.0, (meets_all side o n x h.0).0, (meets_all side o n x h.0).1)
+    first_edge o n (Inner x) steps h = inl (h.0, (meets_all side o n x h.0).0, (meets_all side o n x h.0).1)
 
     pub last_edge : (o n : A) (t : Step A) (steps : List (Step A))
         → AllByRecursion (IsCcw at) (strip side o n (t ∷ steps))
         → HasEdge at z (outer_end o (t ∷ steps)) (inner_end n (t ∷ steps)) (strip side o n (t ∷ steps))
-    last_edge o n (Outer x) [] h = inl (h.0, meets_x side o n x h.0, meets_n side o n x h.0)
-    last_edge o n (Inner x) [] h = inl (h.0, meets_o side o n x h.0, meets_x side o n x h.0)
+    last_edge o n (Outer x) [] h = inl (h.0, (meets_all side o n x h.0).2, (meets_all side o n x h.0).1)
+    last_edge o n (Inner x) [] h = inl (h.0, (meets_all side o n x h.0).0, (meets_all side o n x h.0).2)
     last_edge o n (Outer x) (t ∷ steps) h = inr (last_edge x n t steps h.1)
     last_edge o n (Inner x) (t ∷ steps) h = inr (last_edge o x t steps h.1)
 

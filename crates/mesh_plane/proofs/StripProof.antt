@@ -11,8 +11,10 @@ use Rattle.mesh_plane.specs.Triangles.{Step, Outer, Inner, strip, outer_end, inn
 use Rattle.mesh_plane.specs.Strip.{along, across, IsOutside, Ascend, InQuad, InStrip, StripLaw}
 use Rattle.mesh_plane.proofs.Turns.{turn, turned_back, side_scaled}
 use Rattle.mesh_plane.proofs.Tilings.{tiling_same}
+use Rattle.mesh_plane.proofs.Moves.{turn_swapped}
 use Rattle.mesh_plane.proofs.Sweeps.{Goes}
-use Rattle.mesh_plane.proofs.Lines.{reach, goes}
+use Rattle.mesh_plane.proofs.Sides.{reach}
+use Rattle.mesh_plane.proofs.Lines.{goes}
 use Rattle.mesh_plane.proofs.Strips.{InBand, InsideBand, strip_tiles, outer_end_on, inner_end_on}
 use Rattle.mesh_plane.proofs.Scales.{scaled, grow_lt, nonneg_in, nonneg_out, tiles_at_each_scale}
 
@@ -45,28 +47,28 @@ module _ (outer inner : ℤ) (o n o' n' p : Point) where
       → QuadOf side o n o' n' p
   band_quad South ho hn ho' hn' lo ln i = record {
     ab = left_in (reach South outer) o o' p (goes South outer o o' ho (ho', lo)) i.above;
-    bc = i.last;
+    bc = i.left;
     cd = left_in (reach North inner) n' n p (goes North inner n' n hn' (hn, ln))
         (omega (arith, ints, i.below));
-    da = omega (arith, ints, i.first, turned_back o n p);
+    da = omega (arith, ints, i.right, turned_back o n p);
   }
   band_quad East ho hn ho' hn' lo ln i = record {
     ab = left_in (reach East outer) o o' p (goes East outer o o' ho (ho', lo)) i.above;
-    bc = i.last;
+    bc = i.left;
     cd = left_in (reach West inner) n' n p (goes West inner n' n hn' (hn, ln)) (omega (arith, ints, i.below));
-    da = omega (arith, ints, i.first, turned_back o n p);
+    da = omega (arith, ints, i.right, turned_back o n p);
   }
   band_quad North ho hn ho' hn' lo ln i = record {
-    ab = omega (arith, ints, i.first, turned_back o n p);
+    ab = omega (arith, ints, i.right, turn_swapped o n p, turned_back o n p);
     bc = left_in (reach South inner) n n' p (goes South inner n n' hn (hn', ln))
         (omega (arith, ints, i.below));
-    cd = i.last;
+    cd = omega (arith, ints, i.left, turn_swapped o' n' p);
     da = left_in (reach North outer) o' o p (goes North outer o' o ho' (ho, lo)) i.above;
   }
   band_quad West ho hn ho' hn' lo ln i = record {
-    ab = omega (arith, ints, i.first, turned_back o n p);
+    ab = omega (arith, ints, i.right, turn_swapped o n p, turned_back o n p);
     bc = left_in (reach East inner) n n' p (goes East inner n n' hn (hn', ln)) (omega (arith, ints, i.below));
-    cd = i.last;
+    cd = omega (arith, ints, i.left, turn_swapped o' n' p);
     da = left_in (reach West outer) o' o p (goes West outer o' o ho' (ho, lo)) i.above;
   }
 
@@ -79,32 +81,32 @@ module _ (outer inner : ℤ) (o n o' n' p : Point) where
       record {
         above = left_out (reach South outer) o o' p (goes South outer o o' ho (ho', lo)) i.ab;
         below = omega (arith, ints, k);
-        first = omega (arith, ints, i.da, turned_back o n p);
-        last = i.bc;
+        right = omega (arith, ints, i.da, turned_back o n p);
+        left = i.bc;
       }
   quad_band East ho hn ho' hn' lo ln i =
       let k = left_out (reach West inner) n' n p (goes West inner n' n hn' (hn, ln)) i.cd in
       record {
         above = left_out (reach East outer) o o' p (goes East outer o o' ho (ho', lo)) i.ab;
         below = omega (arith, ints, k);
-        first = omega (arith, ints, i.da, turned_back o n p);
-        last = i.bc;
+        right = omega (arith, ints, i.da, turned_back o n p);
+        left = i.bc;
       }
   quad_band North ho hn ho' hn' lo ln i =
       let k = left_out (reach South inner) n n' p (goes South inner n n' hn (hn', ln)) i.bc in
       record {
         above = left_out (reach North outer) o' o p (goes North outer o' o ho' (ho, lo)) i.da;
         below = omega (arith, ints, k);
-        first = omega (arith, ints, i.ab, turned_back o n p);
-        last = i.cd;
+        right = omega (arith, ints, i.ab, turn_swapped o n p, turned_back o n p);
+        left = omega (arith, ints, i.cd, turn_swapped o' n' p);
       }
   quad_band West ho hn ho' hn' lo ln i =
       let k = left_out (reach East inner) n n' p (goes East inner n n' hn (hn', ln)) i.bc in
       record {
         above = left_out (reach West outer) o' o p (goes West outer o' o ho' (ho, lo)) i.da;
         below = omega (arith, ints, k);
-        first = omega (arith, ints, i.ab, turned_back o n p);
-        last = i.cd;
+        right = omega (arith, ints, i.ab, turn_swapped o n p, turned_back o n p);
+        left = omega (arith, ints, i.cd, turn_swapped o' n' p);
       }
 
 -- ---- the same at the scale s

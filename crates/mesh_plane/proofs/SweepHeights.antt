@@ -1,5 +1,5 @@
 -- Sweeps, strips and fans have one height at each point.
-use Rattle.std.proofs.Common.{◌≡◌, ap, sym, arith, ◌∙◌, List, [], ◌∷◌, map, inl, ⊎_elim}
+use Rattle.std.proofs.Common.{◌≡◌, refl, ap, sym, arith, ◌∙◌, List, [], ◌∷◌, map, inl, ⊎_elim}
 use Rattle.std.specs.Prelude.{ℤ, pos, ◌*ℤ◌, ◌≤ℤ◌, ◌<ℤ◌}
 use Rattle.std.specs.List.{AllByRecursion}
 use Rattle.std.proofs.lemmas.Int.{ints}
@@ -7,9 +7,8 @@ use Rattle.mesh_plane.specs.Plane.{Point}
 use Rattle.mesh_plane.specs.Triangles.{Triple, Step, Outer, Inner}
 use Rattle.mesh_plane.proofs.Turns.{turn, turned_on}
 use Rattle.mesh_plane.proofs.Tilings.{IsCcw, area, Within, Held}
-use Rattle.mesh_plane.proofs.Moves.{Alike, swapped, flipped, flipped_alike, turn_swapped, shifted, shifted_alike}
+use Rattle.mesh_plane.proofs.Moves.{Alike, same_alike, swapped, flipped, flipped_alike, turn_swapped, shifted, shifted_alike}
 use Rattle.mesh_plane.proofs.Sweeps.{Moves, sweep, sweep_tiles}
-use Rattle.mesh_plane.proofs.Strips.{mirror}
 use Rattle.mesh_plane.proofs.Heights.{lift, Agree, Each, OneLevel, Cross, cross_when, one_append}
 use Rattle.mesh_plane.proofs.Edges.{on_side, meets_a, meets_b, meets_c, HasEdge, edge_cross}
 
@@ -108,6 +107,9 @@ module _ {A : Type 0} (from to : A → Point) (z : A → ℤ) (f : Triple A → 
   one_moved [] h = tt
   one_moved (t ∷ ts) h = ((λ i. each_moved t ts (h.0 (same.alike.out t p i))), one_moved ts h.1)
 
+pub unmoved_same : {A : Type 0} (at : A → Point) (z : A → ℤ) → SameHeights at at z (λ t. t) (λ p. p)
+unmoved_same at z = record { alike = same_alike at; area_is = λ t. refl; lift_is = λ t p. refl }
+
 pub shifted_same : {A : Type 0} (at : A → Point) (z : A → ℤ) → SameHeights at at z shifted (λ p. p)
 shifted_same at z = record {
   alike = shifted_alike at;
@@ -115,7 +117,7 @@ shifted_same at z = record {
   lift_is = λ t p. omega (arith, ints);
 }
 
-pub flipped_same : {A : Type 0} (at : A → Point) (z : A → ℤ) → SameHeights (mirror at) at z flipped swapped
+pub flipped_same : {A : Type 0} (at : A → Point) (z : A → ℤ) → SameHeights (λ k. swapped (at k)) at z flipped swapped
 flipped_same at z = record {
   alike = flipped_alike at;
   area_is = λ t. turned_on (at t.b) (at t.a) (at t.c) ∙ sym (turn_swapped (at t.a) (at t.b) (at t.c));

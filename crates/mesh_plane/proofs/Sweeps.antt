@@ -16,18 +16,19 @@ pub record Goes (h : Point → ℤ) (a b : Point) : Type 0 where
   pub far : pos 0 <ℤ w
   pub turns : (p : Point) → turn a b p ≡ w *ℤ h p
 
--- between the lines, right of the segment from o to n and left of the one from o' to n'
-pub record Between (h : Point → ℤ) (m : ℤ) (o n o' n' : Point) (p : Point) : Type 0 where
-  pub above : pos 0 ≤ℤ h p
-  pub below : h p ≤ℤ m
-  pub right : turn o n p ≤ℤ pos 0
-  pub left : pos 0 ≤ℤ turn o' n' p
+-- from 0 to m, and between two segments: x is how far inside of the outer line the point lies, `first` and `last` are the
+-- turns about the segments
+pub record Between (x m first last : ℤ) : Type 0 where
+  pub above : pos 0 ≤ℤ x
+  pub below : x ≤ℤ m
+  pub right : first ≤ℤ pos 0
+  pub left : pos 0 ≤ℤ last
 
-pub record StrictlyBetween (h : Point → ℤ) (m : ℤ) (o n o' n' : Point) (p : Point) : Type 0 where
-  pub above : pos 0 <ℤ h p
-  pub below : h p <ℤ m
-  pub right : turn o n p <ℤ pos 0
-  pub left : pos 0 <ℤ turn o' n' p
+pub record StrictlyBetween (x m first last : ℤ) : Type 0 where
+  pub above : pos 0 <ℤ x
+  pub below : x <ℤ m
+  pub right : first <ℤ pos 0
+  pub left : pos 0 <ℤ last
 
 -- ---- one step, in numbers: d and e are the turns of the segments before and after it
 pub difference : (w m k : ℤ) → w *ℤ (m -ℤ k) ≡ w *ℤ m -ℤ w *ℤ k
@@ -86,10 +87,10 @@ module _ {A : Type 0} (at : A → Point) where
 
   -- what lies between two segments
   abbrev pub Band : (Point → ℤ) → ℤ → A → A → A → A → Point → Type 0
-  Band h m o n o' n' = Between h m (at o) (at n) (at o') (at n')
+  Band h m o n o' n' p = Between (h p) m (turn (at o) (at n) p) (turn (at o') (at n') p)
 
   abbrev pub OpenBand : (Point → ℤ) → ℤ → A → A → A → A → Point → Type 0
-  OpenBand h m o n o' n' = StrictlyBetween h m (at o) (at n) (at o') (at n')
+  OpenBand h m o n o' n' p = StrictlyBetween (h p) m (turn (at o) (at n) p) (turn (at o') (at n') p)
 
   outer_one : (h : Point → ℤ) (m : ℤ) (o n x : A) → pos 0 <ℤ m → h (at n) ≡ m → Goes h (at o) (at x)
       → Tiling at (Band h m o n x n) (OpenBand h m o n x n) (record { a = o; b = x; c = n } ∷ [])

@@ -3,13 +3,12 @@ use Rattle.std.proofs.Common.{◌≡◌, ℕ, refl, ap, sym, ◌∙◌, arith, B
 use Rattle.std.specs.Prelude.{ℤ, pos, ◌*ℤ◌, ◌≤ℤ◌, ◌<ℤ◌}
 use Rattle.std.proofs.lemmas.Int.{ints}
 use Rattle.mesh_plane.specs.Plane.{Point}
-use Rattle.mesh_plane.specs.Triangles.{Triple, Step, strip}
+use Rattle.mesh_plane.specs.Triangles.{Triple}
 use Rattle.mesh_plane.specs.Fan.{Rect, InRect, InsideRect}
 use Rattle.mesh_plane.specs.Cover.{Covers}
 use Rattle.mesh_plane.proofs.Tilings.{Tiling}
-use Rattle.mesh_plane.proofs.Frames.{IsInner}
-use Rattle.mesh_plane.proofs.StripFrames.{Corners, AreAt, framed, south_strip, east_strip, north_strip, west_strip}
-use Rattle.mesh_plane.proofs.StripHeights.{inners}
+use Rattle.mesh_plane.proofs.Frames.{SectorOf, OpenSectorOf, IsInner}
+use Rattle.mesh_plane.proofs.StripFrames.{Corners, AreAt, inner_corner, run_from, side_list, SideRuns, side_strip, framed}
 use Rattle.mesh_plane.proofs.FrameHeights.{frame_one}
 use Rattle.mesh_plane.proofs.Heights.{OneLevel}
 use Rattle.mesh_plane.proofs.Edges.{Edge, Shows, chain}
@@ -80,49 +79,47 @@ module _ (grid : List ℤ) (s : ℤ) (h : pos 1 ≤ℤ s) where
         high = omega (arith, ints, inner_wide);
       }
 
-  module _ (e₁ e₂ e₃ e₄ : List ℕ) (s₁ s₂ s₃ s₄ qs : List (Triple GridPoint))
-      (i₁ : IsStrip grid s h South e₁ s₁) (i₂ : IsStrip grid s h East e₂ s₂)
-      (i₃ : IsStrip grid s h North e₃ s₃) (i₄ : IsStrip grid s h West e₄ s₄)
+  -- strips along the four sides, with the inner points of each, and what tiles the square between them
+  module _ (ends : Side → List ℕ) (strips : Side → List (Triple GridPoint)) (qs : List (Triple GridPoint))
+      (i : (side : Side) → IsStrip grid s h side (ends side) (strips side))
       (hq : Tiling (at grid s) (InRect inner_box) (InsideRect inner_box) qs) where
-    pub frame_tiles : Tiling (at grid s) (InRect outer_box) (InsideRect outer_box) (s₁ ++ (s₂ ++ (s₃ ++ (s₄ ++ qs))))
+    runs : (side : Side)
+        → SideRuns (at grid s) outer_box inner_box is_inner frame_corners at_corners side (i side).first (i side).rest
+    runs South = (i South).runs
+    runs East = (i East).runs
+    runs North = (i North).runs
+    runs West = (i West).runs
+
+    abbrev side_at : Side → List (Triple GridPoint)
+    side_at side =
+        side_list (at grid s) outer_box inner_box is_inner frame_corners at_corners side (i side).first (i side).rest
+
+    tiled : (side : Side)
+        → Tiling (at grid s) (SectorOf outer_box inner_box side) (OpenSectorOf outer_box inner_box side) (side_at side)
+    tiled side =
+        side_strip (at grid s) outer_box inner_box is_inner frame_corners at_corners side (i side).first (i side).rest
+        (runs side)
+
+    pub frame_tiles : Tiling (at grid s) (InRect outer_box) (InsideRect outer_box)
+        (strips South ++ (strips East ++ (strips North ++ (strips West ++ qs))))
     frame_tiles =
-        let a = at grid s in
-        rw (i₁.list, i₂.list, i₃.list, i₄.list)
-        (framed a outer_box inner_box is_inner frame_corners at_corners
-        (strip South (grid_point 0 0) (grid_point 1 1) (i₁.first ∷ i₁.rest))
-        (strip East (grid_point 66 0) (grid_point 65 1) (i₂.first ∷ i₂.rest))
-        (strip North (grid_point 0 66) (grid_point 1 65) (i₃.first ∷ i₃.rest))
-        (strip West (grid_point 0 0) (grid_point 1 1) (i₄.first ∷ i₄.rest)) qs
-        (south_strip a outer_box inner_box is_inner frame_corners at_corners i₁.first i₁.rest i₁.runs)
-        (east_strip a outer_box inner_box is_inner frame_corners at_corners i₂.first i₂.rest i₂.runs)
-        (north_strip a outer_box inner_box is_inner frame_corners at_corners i₃.first i₃.rest i₃.runs)
-        (west_strip a outer_box inner_box is_inner frame_corners at_corners i₄.first i₄.rest i₄.runs) hq)
+        rw ((i South).list, (i East).list, (i North).list, (i West).list)
+        (framed (at grid s) outer_box inner_box is_inner frame_corners at_corners (side_at South) (side_at East)
+        (side_at North) (side_at West) qs (tiled South) (tiled East) (tiled North) (tiled West) hq)
 
     -- the inner line of a strip, where its points are known
-    shown : (side : Side) (o : GridPoint) (ends : List ℕ) (is : List GridPoint) (es : List (Edge GridPoint))
-        → is ≡ map (inner_at side) ends → chain o (map (inner_at side) ends) ≡ es
-        → Shows (at grid s) (height grid) es qs → Shows (at grid s) (height grid) (chain o is) qs
-    shown side o ends is es e f k =
-        subst (λ (fs : List (Edge GridPoint)). Shows (at grid s) (height grid) fs qs)
-        (sym (ap (λ (ps : List GridPoint). chain o ps) e ∙ f)) k
+    abbrev line_at : Side → List GridPoint → List (Edge GridPoint)
+    line_at side ps = chain (inner_corner frame_corners (run_from side)) ps
 
     pub frame_levels : (p : Point) → OneLevel (at grid s) (height grid) p qs
-        → (l₁ l₂ l₃ l₄ : List (Edge GridPoint))
-        → chain (grid_point 1 1) (map (inner_at South) e₁) ≡ l₁
-        → chain (grid_point 65 1) (map (inner_at East) e₂) ≡ l₂
-        → chain (grid_point 1 65) (map (inner_at North) e₃) ≡ l₃
-        → chain (grid_point 1 1) (map (inner_at West) e₄) ≡ l₄
-        → Shows (at grid s) (height grid) l₁ qs → Shows (at grid s) (height grid) l₂ qs
-        → Shows (at grid s) (height grid) l₃ qs → Shows (at grid s) (height grid) l₄ qs
-        → OneLevel (at grid s) (height grid) p (s₁ ++ (s₂ ++ (s₃ ++ (s₄ ++ qs))))
-    frame_levels p oq l₁ l₂ l₃ l₄ c₁ c₂ c₃ c₄ k₁ k₂ k₃ k₄ =
-        rw (i₁.list, i₂.list, i₃.list, i₄.list)
+        → ((side : Side) → Shows (at grid s) (height grid) (line_at side (map (inner_at side) (ends side))) qs)
+        → OneLevel (at grid s) (height grid) p (strips South ++ (strips East ++ (strips North ++ (strips West ++ qs))))
+    frame_levels p oq shown =
+        rw ((i South).list, (i East).list, (i North).list, (i West).list)
         (frame_one (at grid s) (height grid) outer_box inner_box is_inner inner_wide inner_wide frame_corners at_corners
-        i₁.first i₂.first i₃.first i₄.first i₁.rest i₂.rest i₃.rest i₄.rest i₁.runs i₂.runs i₃.runs i₄.runs p qs hq oq
-        (shown South (grid_point 1 1) e₁ (inners (i₁.first ∷ i₁.rest)) l₁ i₁.line c₁ k₁)
-        (shown East (grid_point 65 1) e₂ (inners (i₂.first ∷ i₂.rest)) l₂ i₂.line c₂ k₂)
-        (shown North (grid_point 1 65) e₃ (inners (i₃.first ∷ i₃.rest)) l₃ i₃.line c₃ k₃)
-        (shown West (grid_point 1 1) e₄ (inners (i₄.first ∷ i₄.rest)) l₄ i₄.line c₄ k₄))
+        (λ side. (i side).first) (λ side. (i side).rest) runs p qs hq oq
+        (λ side. subst (λ (ps : List GridPoint). Shows (at grid s) (height grid) (line_at side ps) qs)
+        (sym (i side).line) (shown side)))
 
   -- the square at the scale
   box_is : outer_box ≡ tile_at s
@@ -167,15 +164,19 @@ module _ (grid : List ℤ) (s : ℤ) (h : pos 1 ≤ℤ s) where
     unfolding triangles_of
     triangles_tile =
         subst (λ (r : Rect). Tiling (at grid s) (InRect r) (InsideRect r) (triangles_of (is_split grid tol) kept)) box_is
-        (frame_tiles _ _ _ _ _ _ _ _ _ (border_is South) (border_is East) (border_is North) (border_is West) leaves_tiled)
+        (frame_tiles _ _ _ border_is leaves_tiled)
+
+    leaves_show : (side : Side) → Shows (at grid s) (height grid)
+        (chain (inner_corner frame_corners (run_from side))
+        (map (inner_at side) (leaf_ends (border_split (is_split grid tol) side) 6 0))) (leaf_triangles (is_split grid tol))
+    leaves_show South = rw (south_line grid tol) leaves_even_at.south
+    leaves_show East = rw (east_line grid tol) leaves_even_at.east
+    leaves_show North = rw (north_line grid tol) leaves_even_at.north
+    leaves_show West = rw (west_line grid tol) leaves_even_at.west
 
     pub triangles_level : (p : Point) → OneLevel (at grid s) (height grid) p (triangles_of (is_split grid tol) kept)
     unfolding triangles_of
-    triangles_level p =
-        let e = leaves_even_at in
-        frame_levels _ _ _ _ _ _ _ _ _ (border_is South) (border_is East) (border_is North) (border_is West) leaves_tiled
-        p (e.one p) _ _ _ _ (south_line grid tol) (east_line grid tol) (north_line grid tol) (west_line grid tol)
-        e.south e.east e.north e.west
+    triangles_level p = frame_levels _ _ _ border_is leaves_tiled p (leaves_even_at.one p) leaves_show
 
 -- the triangles of a grid cover the tile
 pub triangles_cover : (grid : List ℤ) (tol : ℕ) (kept : Side → List ℕ) → ((side : Side) → RisesTo66 (kept side))
