@@ -101,14 +101,14 @@ pub meet_east : (tile other : TileId) (grid grid' : List ℤ) → other.z ≡ ti
     → ((j : ℕ) → j ≤ 66 → height_in grid 66 j ≡ height_in grid' 0 j)
     → MeetEast (terrain_in tile (mesh_of_grid grid tile.z)) (terrain_in other (mesh_of_grid grid' other.z))
 meet_east tile other grid grid' level g k same h h' n n' vs vs' p q =
-    seen_pairs north_pair tile grid edge.East h n vs g (one_sight _ h _ n _ vs _ p (is_seen tile grid g))
+    seen_pairs north_pair tile grid East h n vs g (one_sight _ h _ n _ vs _ p (is_seen tile grid g))
     ∙ met north_pair tile other grid grid' East West level same (λ p. refl) (λ p. refl)
-    ∙ sym (seen_pairs north_pair other grid' edge.West h' n' vs' k (one_sight _ h' _ n' _ vs' _ q (is_seen other grid' k)))
+    ∙ sym (seen_pairs north_pair other grid' West h' n' vs' k (one_sight _ h' _ n' _ vs' _ q (is_seen other grid' k)))
 
 pub meet_north : (tile other : TileId) (grid grid' : List ℤ) → other.z ≡ tile.z → IsGrid grid → IsGrid grid'
     → ((i : ℕ) → i ≤ 66 → height_in grid i 66 ≡ height_in grid' i 0)
     → MeetNorth (terrain_in tile (mesh_of_grid grid tile.z)) (terrain_in other (mesh_of_grid grid' other.z))
 meet_north tile other grid grid' level g k same h h' n n' vs vs' p q =
-    seen_pairs east_pair tile grid edge.North h n vs g (one_sight _ h _ n _ vs _ p (is_seen tile grid g))
+    seen_pairs east_pair tile grid North h n vs g (one_sight _ h _ n _ vs _ p (is_seen tile grid g))
     ∙ met east_pair tile other grid grid' North South level same (λ p. refl) (λ p. refl)
-    ∙ sym (seen_pairs east_pair other grid' edge.South h' n' vs' k (one_sight _ h' _ n' _ vs' _ q (is_seen other grid' k)))
+    ∙ sym (seen_pairs east_pair other grid' South h' n' vs' k (one_sight _ h' _ n' _ vs' _ q (is_seen other grid' k)))
