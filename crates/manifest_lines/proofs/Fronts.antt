@@ -197,8 +197,10 @@ text_is g ok v m p s count rest bytes h good e =
 pub bad_row : {R : Type 0} (g : Grammar R) → IsGrammar g → (v : Version) (p : Params) (s : State R) (count line : ℕ) (rest bytes : List ℕ) → HasHead g v p s count rest bytes
     → IsBadRow g v count line rest → IsFirstBad g v line bytes
 bad_row g ok v p s count line rest bytes h bad = record {
-  before = λ n less. begins_before g v n (5 + bad.good) bytes (omega (arith, bad.numbered)) (begins_of_rows g v p s count bad.good rest bytes h bad.before);
-  here = λ b. bad.here (rows_of_begins g ok v p s count (bad.good + 1) rest bytes h (let even : line ≡ 5 + (bad.good + 1) = omega (arith, bad.numbered) in subst (λ k. Begins g v k bytes) even b));
+  least = record {
+    before = λ n less. begins_before g v n (5 + bad.good) bytes (omega (arith, bad.numbered)) (begins_of_rows g v p s count bad.good rest bytes h bad.before);
+    here = λ b. bad.here (rows_of_begins g ok v p s count (bad.good + 1) rest bytes h (let even : line ≡ 5 + (bad.good + 1) = omega (arith, bad.numbered) in subst (λ k. Begins g v k bytes) even b));
+  };
   wrong = λ m good e. let t = text_is g ok v m p s count rest bytes h good e in bad.wrong m.rows (sym t.count) t.rows;
 }
 
@@ -221,7 +223,6 @@ bad_head g v p s named n rest bytes within e here =
       same = e;
     } in
     record {
-      before = λ k less. begins_before g v k n bytes (omega arith) good;
-      here = here;
+      least = record { before = λ k less. begins_before g v k n bytes (omega arith) good; here = here };
       wrong = λ m is text. here (text_begins g v m (n + 1) bytes is (omega arith) text);
     }

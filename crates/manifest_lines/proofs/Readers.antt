@@ -16,13 +16,14 @@ use Rattle.std.proofs.lemmas.Fmt.{IsAscii-decimal, IsAscii-signed, parse-decimal
 use Rattle.std.proofs.lemmas.Int.{ints}
 use Rattle.std.proofs.lemmas.List.{length-map, map_more, take_all}
 use Rattle.std.proofs.lemmas.Str.{IsUtf8-from_ascii}
+use Rattle.common_laws.proofs.First.{least_failing_once}
 use Rattle.terrain_base.specs.Height.{IsHeight}
 use Rattle.terrain_base.specs.declared.params.Params.{Params}
 use Rattle.manifest_lines.specs.declared.state.State.{State}
 use Rattle.manifest_lines.specs.declared.version.Version.{Version}
 use Rattle.manifest_lines.specs.Grammar.{Grammar, IsGrammar}
 use Rattle.manifest_lines.specs.Line.{IsLine, ended}
-use Rattle.manifest_lines.specs.Refused.{IsFirstBad, IsBadLine}
+use Rattle.manifest_lines.specs.Refused.{IsBadLine}
 use Rattle.manifest_lines.specs.Manifest.{Contents, HasLines, IsManifest, IsStateOf, Fits, state_line, head_lines, lines_of, manifest_text}
 use Rattle.manifest_lines.specs.declared.refusal.ManifestRefusal.{ManifestRefusal}
 use Rattle.manifest_lines.specs.declared.refusal.ManifestRefusal.TheVariants.{NotADatabase, NoMemory}
@@ -54,18 +55,8 @@ refused_is_none g ok v bytes line (inl bad) m good e = bad.wrong m good.lines e
 refused_is_none {R} g ok v bytes line (inr bad) m good e =
     bad.unfit (subst (λ (c : Contents R). Fits c.state c.rows) (one_text g ok v m bad.contents good.lines bad.lines (sym e ∙ bad.text)) good.fits)
 
-first_bad_once : {R : Type 0} (g : Grammar R) (v : Version) (bytes : List ℕ) (a b : ℕ) → IsFirstBad g v a bytes → IsFirstBad g v b bytes → a ≡ b
-first_bad_once g v bytes a b p q =
-    elim (cases_order a b) [
-      | inl same ↦ same
-      | inr s ↦ elim s [
-        | inl less ↦ absurd (p.here (q.before a less))
-        | inr more ↦ absurd (q.here (p.before b more))
-      ]
-    ]
-
 pub one_bad : {R : Type 0} (g : Grammar R) → IsGrammar g → (v : Version) (bytes : List ℕ) (a b : ℕ) → IsBadLine g v a bytes → IsBadLine g v b bytes → a ≡ b
-one_bad g ok v bytes a b (inl p) (inl q) = first_bad_once g v bytes a b p q
+one_bad g ok v bytes a b (inl p) (inl q) = least_failing_once a b p.least q.least
 one_bad g ok v bytes a b (inl p) (inr q) = absurd (p.wrong q.contents q.lines q.text)
 one_bad g ok v bytes a b (inr p) (inl q) = absurd (q.wrong p.contents p.lines p.text)
 one_bad g ok v bytes a b (inr p) (inr q) = p.fourth ∙ sym q.fourth

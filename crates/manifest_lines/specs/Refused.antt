@@ -1,5 +1,6 @@
 -- The line for which bytes are refused: the first that no manifest could have there, or the state's.
-use Rattle.std.specs.Prelude.{◌≡◌, ◌≢◌, ◌⊎◌, ℕ, ◌+◌, ◌<◌, ◌≤◌, List, ◌++◌, length, take}
+use Rattle.std.specs.Prelude.{◌≡◌, ◌≢◌, ◌⊎◌, ℕ, ◌+◌, ◌≤◌, List, ◌++◌, length, take}
+use Rattle.common_laws.specs.First.{IsLeastFailing}
 use Rattle.terrain_base.specs.declared.params.Params.{Params}
 use Rattle.manifest_lines.specs.declared.state.State.{State}
 use Rattle.manifest_lines.specs.declared.version.Version.{Version}
@@ -25,8 +26,7 @@ pub record Begins {R : Type 0} (g : Grammar R) (v : Version) (n : ℕ) (bytes : 
 -- the lines before this one are as a manifest has them, and this one is not: it says something else, is missing, lacks
 -- its line feed or follows the last row
 pub record IsFirstBad {R : Type 0} (g : Grammar R) (v : Version) (line : ℕ) (bytes : List ℕ) : Type 0 where
-  pub before : (n : ℕ) → n < line → Begins g v n bytes
-  pub here : ¬ (Begins g v line bytes)
+  pub least : IsLeastFailing (λ n. Begins g v n bytes) line
   pub wrong : (m : Contents R) → HasLines g v m → bytes ≢ manifest_text g v m
 
 -- all lines are as a manifest has them, but the row of line 4 is put and not among the rows, or dropped and among them
