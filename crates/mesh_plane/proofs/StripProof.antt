@@ -1,6 +1,6 @@
 -- The law of strips, at every scale.
 use Rattle.std.proofs.Common.{◌≡◌, ap, arith, List, [], ◌∷◌}
-use Rattle.std.specs.Prelude.{ℤ, pos, ◌*ℤ◌, ◌≤ℤ◌, ◌<ℤ◌}
+use Rattle.std.specs.Prelude.{ℤ, pos, ◌-ℤ◌, ◌*ℤ◌, ◌≤ℤ◌, ◌<ℤ◌}
 use Rattle.std.proofs.lemmas.Int.{ints}
 use Rattle.polynomial.proofs.Signs.{times_nonneg, factor_nonneg, factor_pos, weaken}
 use Rattle.mesh_plane.specs.declared.corner.Corner.{Corner}
@@ -11,11 +11,10 @@ use Rattle.mesh_plane.specs.Triangles.{Step, Outer, Inner, strip, outer_end, inn
 use Rattle.mesh_plane.specs.Strip.{along, across, IsOutside, Ascend, InQuad, InStrip, StripLaw}
 use Rattle.mesh_plane.proofs.Turns.{turn, turned_back, side_scaled}
 use Rattle.mesh_plane.proofs.Tilings.{tiling_same}
-use Rattle.mesh_plane.proofs.Moves.{turn_swapped}
+use Rattle.mesh_plane.proofs.Moves.{swapped, turn_swapped}
 use Rattle.mesh_plane.proofs.Sweeps.{Goes}
-use Rattle.mesh_plane.proofs.Sides.{reach}
-use Rattle.mesh_plane.proofs.Lines.{goes}
-use Rattle.mesh_plane.proofs.Strips.{InBand, InsideBand, strip_tiles, outer_end_on, inner_end_on}
+use Rattle.mesh_plane.proofs.Sides.{reach, depth}
+use Rattle.mesh_plane.proofs.Strips.{seen, seen_twice, rise, InBand, InsideBand, goes_along, goes_inner, strip_tiles, outer_end_on, inner_end_on}
 use Rattle.mesh_plane.proofs.Scales.{scaled, grow_lt, nonneg_in, nonneg_out, tiles_at_each_scale}
 
 -- ---- the quadrilateral is what lies between the lines and the end segments
@@ -40,73 +39,68 @@ left_out h a b p g k = factor_nonneg g.w (h p) g.far (omega (arith, ints, g.turn
 pub strictly_out : (h : Point → ℤ) (a b p : Point) (g : Goes h a b) → pos 0 <ℤ turn a b p → pos 0 <ℤ h p
 strictly_out h a b p g k = factor_pos g.w (h p) g.far (omega (arith, ints, g.turns p, k))
 
-module _ (outer inner : ℤ) (o n o' n' p : Point) where
-  pub band_quad : (side : Side) → across side o ≡ outer → across side n ≡ inner → across side o' ≡ outer
-      → across side n' ≡ inner
-      → along side o <ℤ along side o' → along side n <ℤ along side n' → InBand side outer inner o n o' n' p
-      → QuadOf side o n o' n' p
-  band_quad South ho hn ho' hn' lo ln i = record {
-    ab = left_in (reach South outer) o o' p (goes South outer o o' ho (ho', lo)) i.above;
-    bc = i.left;
-    cd = left_in (reach North inner) n' n p (goes North inner n' n hn' (hn, ln))
-        (omega (arith, ints, i.below));
-    da = omega (arith, ints, i.right, turned_back o n p);
-  }
-  band_quad East ho hn ho' hn' lo ln i = record {
-    ab = left_in (reach East outer) o o' p (goes East outer o o' ho (ho', lo)) i.above;
-    bc = i.left;
-    cd = left_in (reach West inner) n' n p (goes West inner n' n hn' (hn, ln)) (omega (arith, ints, i.below));
-    da = omega (arith, ints, i.right, turned_back o n p);
-  }
-  band_quad North ho hn ho' hn' lo ln i = record {
-    ab = omega (arith, ints, i.right, turn_swapped o n p, turned_back o n p);
-    bc = left_in (reach South inner) n n' p (goes South inner n n' hn (hn', ln))
-        (omega (arith, ints, i.below));
-    cd = omega (arith, ints, i.left, turn_swapped o' n' p);
-    da = left_in (reach North outer) o' o p (goes North outer o' o ho' (ho, lo)) i.above;
-  }
-  band_quad West ho hn ho' hn' lo ln i = record {
-    ab = omega (arith, ints, i.right, turn_swapped o n p, turned_back o n p);
-    bc = left_in (reach East inner) n n' p (goes East inner n n' hn (hn', ln)) (omega (arith, ints, i.below));
-    cd = omega (arith, ints, i.left, turn_swapped o' n' p);
-    da = left_in (reach West outer) o' o p (goes West outer o' o ho' (ho, lo)) i.above;
-  }
+-- u and v exchanged
+exchanged : (a b c d p : Point) → QuadAt a d c b p
+    → QuadAt (swapped a) (swapped b) (swapped c) (swapped d) (swapped p)
+exchanged a b c d p i = record {
+  ab = omega (arith, ints, i.da, turn_swapped a b p);
+  bc = omega (arith, ints, i.cd, turn_swapped b c p);
+  cd = omega (arith, ints, i.bc, turn_swapped c d p);
+  da = omega (arith, ints, i.ab, turn_swapped d a p);
+}
 
-  pub quad_band : (side : Side) → across side o ≡ outer → across side n ≡ inner → across side o' ≡ outer
-      → across side n' ≡ inner
-      → along side o <ℤ along side o' → along side n <ℤ along side n' → QuadOf side o n o' n' p
-      → InBand side outer inner o n o' n' p
-  quad_band South ho hn ho' hn' lo ln i =
-      let k = left_out (reach North inner) n' n p (goes North inner n' n hn' (hn, ln)) i.cd in
+-- the quadrilateral as it is seen from its side
+abbrev SeenQuad : Side → Point → Point → Point → Point → Point → Type 0
+SeenQuad side o n o' n' p = QuadAt (seen side o) (seen side o') (seen side n') (seen side n) (seen side p)
+
+quad_seen : (side : Side) (o n o' n' p : Point) → QuadOf side o n o' n' p → SeenQuad side o n o' n' p
+quad_seen South o n o' n' p i = i
+quad_seen East o n o' n' p i = i
+quad_seen North o n o' n' p i = exchanged o o' n' n p i
+quad_seen West o n o' n' p i = exchanged o o' n' n p i
+
+seen_quad : (side : Side) (o n o' n' p : Point) → SeenQuad side o n o' n' p → QuadOf side o n o' n' p
+seen_quad South o n o' n' p i = i
+seen_quad East o n o' n' p i = i
+seen_quad North o n o' n' p i = exchanged (swapped o) (swapped n) (swapped n') (swapped o') (swapped p) i
+seen_quad West o n o' n' p i = exchanged (swapped o) (swapped n) (swapped n') (swapped o') (swapped p) i
+
+module _ (outer inner : ℤ) (o n o' n' p : Point) (side : Side) (ho : across side o ≡ outer) (hn : across side n ≡ inner)
+    (ho' : across side o' ≡ outer) (hn' : across side n' ≡ inner) (lo : along side o <ℤ along side o')
+    (ln : along side n <ℤ along side n') where
+  abbrev from_inner : Point → ℤ
+  from_inner q = depth side outer inner -ℤ rise side outer q
+
+  on_outer : Goes (rise side outer) (seen side o) (seen side o')
+  on_outer = goes_along side outer o o' ho ho' lo
+
+  on_inner : Goes from_inner (seen side n') (seen side n)
+  on_inner = goes_inner side outer inner n n' hn hn' ln
+
+  rise_is : rise side outer (seen side p) ≡ reach side outer p
+  rise_is = ap (reach side outer) (seen_twice side p)
+
+  pub band_quad : InBand side outer inner o n o' n' p → QuadOf side o n o' n' p
+  band_quad i =
+      seen_quad side o n o' n' p (record {
+        ab = left_in (rise side outer) (seen side o) (seen side o') (seen side p) on_outer
+            (omega (arith, ints, i.above, rise_is));
+        bc = i.left;
+        cd = left_in from_inner (seen side n') (seen side n) (seen side p) on_inner
+            (omega (arith, ints, i.below, rise_is));
+        da = omega (arith, ints, i.right, turned_back (seen side o) (seen side n) (seen side p));
+      })
+
+  pub quad_band : QuadOf side o n o' n' p → InBand side outer inner o n o' n' p
+  quad_band k =
+      let i = quad_seen side o n o' n' p k in
+      let a = left_out (rise side outer) (seen side o) (seen side o') (seen side p) on_outer i.ab in
+      let b = left_out from_inner (seen side n') (seen side n) (seen side p) on_inner i.cd in
       record {
-        above = left_out (reach South outer) o o' p (goes South outer o o' ho (ho', lo)) i.ab;
-        below = omega (arith, ints, k);
-        right = omega (arith, ints, i.da, turned_back o n p);
+        above = omega (arith, ints, a, rise_is);
+        below = omega (arith, ints, b, rise_is);
+        right = omega (arith, ints, i.da, turned_back (seen side o) (seen side n) (seen side p));
         left = i.bc;
-      }
-  quad_band East ho hn ho' hn' lo ln i =
-      let k = left_out (reach West inner) n' n p (goes West inner n' n hn' (hn, ln)) i.cd in
-      record {
-        above = left_out (reach East outer) o o' p (goes East outer o o' ho (ho', lo)) i.ab;
-        below = omega (arith, ints, k);
-        right = omega (arith, ints, i.da, turned_back o n p);
-        left = i.bc;
-      }
-  quad_band North ho hn ho' hn' lo ln i =
-      let k = left_out (reach South inner) n n' p (goes South inner n n' hn (hn', ln)) i.bc in
-      record {
-        above = left_out (reach North outer) o' o p (goes North outer o' o ho' (ho, lo)) i.da;
-        below = omega (arith, ints, k);
-        right = omega (arith, ints, i.ab, turn_swapped o n p, turned_back o n p);
-        left = omega (arith, ints, i.cd, turn_swapped o' n' p);
-      }
-  quad_band West ho hn ho' hn' lo ln i =
-      let k = left_out (reach East inner) n n' p (goes East inner n n' hn (hn', ln)) i.bc in
-      record {
-        above = left_out (reach West outer) o' o p (goes West outer o' o ho' (ho, lo)) i.da;
-        below = omega (arith, ints, k);
-        right = omega (arith, ints, i.ab, turn_swapped o n p, turned_back o n p);
-        left = omega (arith, ints, i.cd, turn_swapped o' n' p);
       }
 
 -- ---- the same at the scale s

@@ -20,7 +20,7 @@ seen East p = p
 seen North p = swapped p
 seen West p = swapped p
 
-seen_twice : (side : Side) (p : Point) → seen side (seen side p) ≡ p
+pub seen_twice : (side : Side) (p : Point) → seen side (seen side p) ≡ p
 seen_twice South p = refl
 seen_twice East p = refl
 seen_twice North p = refl
@@ -62,6 +62,14 @@ goes_along East line a b e f l = goes East line a b e (f, l)
 goes_along North line a b e f l = goes East line (swapped a) (swapped b) e (f, l)
 goes_along West line a b e f l = goes South line (swapped a) (swapped b) e (f, l)
 
+-- the same back, along the inner line
+pub goes_inner : (side : Side) (outer inner : ℤ) (a b : Point) → across side a ≡ inner → across side b ≡ inner
+    → along side a <ℤ along side b
+    → Goes (λ p. depth side outer inner -ℤ rise side outer p) (seen side b) (seen side a)
+goes_inner side outer inner a b e f l =
+    goes_back (rise side inner) (λ p. depth side outer inner -ℤ rise side outer p) (seen side a) (seen side b)
+    (λ p. depth_left side outer inner (seen side p)) (goes_along side inner a b e f l)
+
 cornered_is : {A : Type 0} (side : Side) (o n x : A) → faced side (record { a = o; b = x; c = n }) ≡ cornered side o n x
 cornered_is South o n x = refl
 cornered_is East o n x = refl
@@ -97,8 +105,7 @@ module _ {A : Type 0} (at : A → Point) (side : Side) where
       strip_moves x n steps s.0 hn s.2,
     )
     strip_moves o n (Inner x ∷ steps) ho hn s = (
-      goes_back (rise side inner) (λ p. depth side outer inner -ℤ rise side outer p) (seen_at n) (seen_at x)
-          (λ p. depth_left side outer inner (seen side p)) (goes_along side inner (at n) (at x) hn s.0 s.1),
+      goes_inner side outer inner (at n) (at x) hn s.0 s.1,
       full_rise x s.0,
       strip_moves o x steps ho s.0 s.2,
     )

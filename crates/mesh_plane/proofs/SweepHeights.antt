@@ -10,7 +10,7 @@ use Rattle.mesh_plane.proofs.Tilings.{IsCcw, area, Within, Held}
 use Rattle.mesh_plane.proofs.Moves.{Alike, same_alike, swapped, flipped, flipped_alike, turn_swapped, shifted, shifted_alike}
 use Rattle.mesh_plane.proofs.Sweeps.{Moves, sweep, sweep_tiles}
 use Rattle.mesh_plane.proofs.Heights.{lift, Agree, Each, OneLevel, Cross, cross_when, one_append}
-use Rattle.mesh_plane.proofs.Edges.{on_side, meets_a, meets_b, meets_c, HasEdge, edge_cross}
+use Rattle.mesh_plane.proofs.Edges.{on_side, Meets, meets_a, meets_b, meets_c, HasEdge, edge_cross}
 
 module _ {A : Type 0} (at : A → Point) (z : A → ℤ) where
   -- one triangle
@@ -28,34 +28,38 @@ module _ {A : Type 0} (at : A → Point) (z : A → ℤ) where
 
   -- a triangle and a sweep that begins with its side from x to n, or from o to x
   module _ (p : Point) where
+    -- in general, with its side from d to e, to the left of which lies f
+    side_cross : (t : Triple A) (d e f : A) (us : List (Triple A)) → pos 0 <ℤ area at t
+        → pos 0 <ℤ turn (at f) (at d) (at e)
+        → (Within at t p → (pos 0 ≤ℤ turn (at d) (at e) p) × (pos 0 ≤ℤ turn (at e) (at f) p)
+        × (pos 0 ≤ℤ turn (at f) (at d) p))
+        → Meets at z t d → Meets at z t e → HasEdge at z d e us → OneLevel at z p us
+        → (Held at p us → turn (at d) (at e) p ≤ℤ pos 0) → Cross at z p (t ∷ []) us
+    side_cross t d e f us h left within md me edge one right =
+        cross_when at z p (t ∷ []) us (λ i j. ⊎_elim
+        (λ (w : Within at t p).
+        let k = within w in
+        edge_cross at z d e p (turn (at e) (at f) p) (turn (at f) (at d) p) (t ∷ []) us
+        (on_side (at f) (at d) (at e) p left (omega (arith, ints, k.0, right j)) k.1 k.2)
+        (inl (h, md, me)) edge (one_alone p t) one)
+        (λ k. absurd k) i)
+
     outer_cross : (o n x : A) (us : List (Triple A)) → pos 0 <ℤ area at (record { a = o; b = x; c = n })
         → HasEdge at z x n us
         → OneLevel at z p us → (Held at p us → turn (at x) (at n) p ≤ℤ pos 0)
         → Cross at z p (record { a = o; b = x; c = n } ∷ []) us
-    outer_cross o n x us h edge one right =
+    outer_cross o n x us h =
         let t : Triple A = record { a = o; b = x; c = n } in
-        cross_when at z p (t ∷ []) us (λ i j. ⊎_elim
-        (λ (w : Within at t p).
-        let e : turn (at x) (at n) p ≡ pos 0 = omega (arith, ints, w.bc, right j) in
-        edge_cross at z x n p (turn (at n) (at o) p) (turn (at o) (at x) p) (t ∷ []) us
-        (on_side (at o) (at x) (at n) p h e w.ca w.ab)
-        (inl (h, meets_b at z t h, meets_c at z t h)) edge (one_alone p t) one)
-        (λ k. absurd k) i)
+        side_cross t x n o us h h (λ w. (w.bc, w.ca, w.ab)) (meets_b at z t h) (meets_c at z t h)
 
     inner_cross : (o n x : A) (us : List (Triple A)) → pos 0 <ℤ area at (record { a = o; b = x; c = n })
         → HasEdge at z o x us
         → OneLevel at z p us → (Held at p us → turn (at o) (at x) p ≤ℤ pos 0)
         → Cross at z p (record { a = o; b = x; c = n } ∷ []) us
-    inner_cross o n x us h edge one right =
+    inner_cross o n x us h =
         let t : Triple A = record { a = o; b = x; c = n } in
-        cross_when at z p (t ∷ []) us (λ i j. ⊎_elim
-        (λ (w : Within at t p).
-        let e : turn (at o) (at x) p ≡ pos 0 = omega (arith, ints, w.ab, right j) in
-        let k : pos 0 <ℤ turn (at n) (at o) (at x) = omega (arith, ints, h, turned_on (at n) (at o) (at x)) in
-        edge_cross at z o x p (turn (at x) (at n) p) (turn (at n) (at o) p) (t ∷ []) us
-        (on_side (at n) (at o) (at x) p k e w.bc w.ca)
-        (inl (h, meets_a at z t h, meets_b at z t h)) edge (one_alone p t) one)
-        (λ k. absurd k) i)
+        side_cross t o x n us h (omega (arith, ints, h, turned_on (at n) (at o) (at x)))
+        (λ w. (w.ab, w.bc, w.ca)) (meets_a at z t h) (meets_b at z t h)
 
     pub sweep_one : (h : Point → ℤ) (m : ℤ) (o n : A) (s : Step A) (steps : List (Step A)) → pos 0 <ℤ m
         → h (at o) ≡ pos 0
