@@ -1,6 +1,6 @@
 -- What is read is a cell of the key, or shows what is wrong with it.
-use Rattle.std.proofs.Common.{◌≡◌, ◌≢◌, ℕ, Bool, true, false, ◌&&◌, not, nat_eq, List, Some, None, refl, sym, ap, ◌∙◌, arith}
-use Rattle.std.proofs.lemmas.Bool.Decides.{nat_tests}
+use Rattle.std.proofs.Common.{◌≡◌, ◌≢◌, ℕ, Bool, false, ◌&&◌, not, nat_eq, List, Some, None, refl, sym, ap, ◌∙◌}
+use Rattle.std.proofs.lemmas.Bool.{not-false, eqb-true}
 use Rattle.terrain_base.specs.declared.cell_key.CellKey.{CellKey}
 use Rattle.terrain_base.specs.declared.level.CellLevel.{CellLevel}
 use Rattle.terrain_base.specs.declared.name.Key.{Key}
@@ -16,18 +16,11 @@ use Rattle.dted_cell.specs.Trouble.{IsCellAt}
 use Rattle.cell_cache.specs.CachedLaws.{both}
 use Rattle.cell_cache.specs.Fetched.{IsTroubleAt}
 
-not_false : (b : Bool) → not b ≡ false → b ≡ true
-not_false true is = refl
-not_false false is = absurd (cc)
-
-equal : (a b : ℕ) → nat_eq a b ≡ true → a ≡ b
-equal a b is = grind (arith, nat_tests)
-
 -- squares that do not differ are the same
 pub same_degrees : (a b : Square) (differ : Bool) → differ ≡ not (nat_eq a.lat b.lat && nat_eq a.lon b.lon) → differ ≡ false → a ≡ b
 same_degrees a b differ is none =
-    let tests = both (nat_eq a.lat b.lat) (nat_eq a.lon b.lon) (not_false (nat_eq a.lat b.lat && nat_eq a.lon b.lon) (sym is ∙ none)) in
-    same_square a b (equal a.lat b.lat tests.0) (equal a.lon b.lon tests.1)
+    let tests = both (nat_eq a.lat b.lat) (nat_eq a.lon b.lon) (not-false (nat_eq a.lat b.lat && nat_eq a.lon b.lon) (sym is ∙ none)) in
+    same_square a b (eqb-true a.lat b.lat tests.0) (eqb-true a.lon b.lon tests.1)
 
 module _ (key : CellKey) (bytes : List ℕ) (square : Square) (level : CellLevel) (accepted : refusal_of bytes ≡ None) (square_is : square ≡ square_in bytes) (level_is : level ≡ level_in bytes) where
   pub of_key : key ≡ key_at square level → IsCellAt key bytes

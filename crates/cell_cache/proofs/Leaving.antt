@@ -3,6 +3,7 @@ use Rattle.std.proofs.Common.{◌≡◌, ◌↔◌, ℕ, Bool, true, false, ◌|
 use Rattle.std.specs.Prelude.{Result, Ok, Err, IfSome, IsTrue}
 use Rattle.std.specs.FinMap.{get}
 use Rattle.std.specs.FinSet.{contains}
+use Rattle.std.proofs.lemmas.Bool.{or_right}
 use Rattle.terrain_base.specs.declared.cell_key.CellKey.{CellKey}
 use Rattle.terrain_base.specs.declared.name.Key.{Key}
 use Rattle.terrain_base.specs.declared.name.Key.TheVariants.{Cell as CellName}
@@ -24,11 +25,11 @@ use Rattle.cell_cache.proofs.Told.{is_told, still_told}
 
 -- ---- troubles
 
-clash : (key : CellKey) (bytes : List ℕ) (trouble : CellTrouble) → IsCellAt key bytes → ShowsAt key (Some bytes) trouble → ⊥
-clash key bytes (Lost name) cell shown = absurd (cc)
-clash key bytes (Bad name refusal) cell shown = absurd (let none = cell.accepted in cc)
-clash key bytes (Elsewhere name found) cell shown = shown.2 (sym shown.1 ∙ cell.square)
-clash key bytes (Changed name opened found) cell shown = shown.4 (sym shown.2 ∙ cell.level ∙ sym shown.3)
+pub no_trouble : (key : CellKey) (bytes : List ℕ) (trouble : CellTrouble) → IsCellAt key bytes → ShowsAt key (Some bytes) trouble → ⊥
+no_trouble key bytes (Lost name) cell shown = absurd (cc)
+no_trouble key bytes (Bad name refusal) cell shown = absurd (let none = cell.accepted in cc)
+no_trouble key bytes (Elsewhere name found) cell shown = shown.2 (sym shown.1 ∙ cell.square)
+no_trouble key bytes (Changed name opened found) cell shown = shown.4 (sym shown.2 ∙ cell.level ∙ sym shown.3)
 
 nothing : (o : Option Cells) → ((told : Cells) → o ≡ Some told → ⊥) → o ≡ None
 nothing None never = refl
@@ -40,7 +41,7 @@ untold : (rows : List Summary) (held : List (Slot × List ℕ)) (key : CellKey) 
 untold rows held key None trouble known shown = refl
 untold rows held key (Some files) trouble known shown = nothing (cells_through rows held (Some files)) (λ told is.
     let at = is_told rows held files told key known is in
-    clash key at.bytes trouble at.cell (subst (λ o. ShowsAt key o trouble) at.file shown))
+    no_trouble key at.bytes trouble at.cell (subst (λ o. ShowsAt key o trouble) at.file shown))
 
 same_name : (a b : CellKey) → ◌≡◌ {A = Key} (CellName a) (CellName b) → a ≡ b
 same_name a b e = cc
@@ -122,9 +123,5 @@ no_cause cause = record { later = cause.later; failed = λ is. absurd (cc) }
 pub memory_cause : {T U : Type 0} {before now : ℕ} {given : T} → FaultHasCause before now (success given) → FaultHasCause before now (failure U NoMemory)
 memory_cause cause = record { later = cause.later; failed = λ is. absurd (cc) }
 
-or_true : (a b : Bool) → b ≡ true → (a || b) ≡ true
-or_true true b is = refl
-or_true false b is = is
-
 pub marked : {T : Type 0} {before trouble : Bool} {fault : SourceFault} → IsTrue trouble ↔ IsTrouble fault → Marks before (before || trouble) (failure T fault)
-marked {before = before} {trouble = trouble} tells = record { unspoilt = tt; troubled = λ is. or_true before trouble (tells.1 is) }
+marked {before = before} {trouble = trouble} tells = record { unspoilt = tt; troubled = λ is. or_right before trouble (tells.1 is) }

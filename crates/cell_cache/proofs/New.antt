@@ -9,6 +9,7 @@ use Rattle.std.specs.declared.cmp.Ordering.TheVariants.{Less, Equal, Greater}
 use Rattle.std.specs.FinMap.{get, entries, entries_sorted, from_entries, get-entries, get-from_entries, same_map, find, is_sorted}
 use Rattle.std.specs.FinMap.Entries.{below_all}
 use Rattle.std.proofs.lemmas.Map.Views.{tells_apart}
+use Rattle.common_laws.proofs.Booleans.{left_holds, right_holds}
 use Rattle.terrain_base.specs.declared.cell_key.CellKey.{CellKey}
 use Rattle.terrain_base.specs.declared.post.Extremes.{Extremes}
 use Rattle.terrain_base.specs.declared.summary.Summary.{Summary}
@@ -25,14 +26,6 @@ use Rattle.cell_cache.specs.Cached.{file_of, same_extremes, is_cell_of, is_file_
 
 -- ---- entries whose keys rise are found
 
-left : (a b : Bool) → T (a && b) → T a
-left true b h = tt
-left false b h = absurd h
-
-right : (a b : Bool) → T (a && b) → T b
-right true b h = h
-right false b h = absurd h
-
 not_tied : (o : Ordering) → T (is_lt o) → is_eq o ≡ false
 not_tied Less h = refl
 not_tied Equal h = absurd h
@@ -41,8 +34,8 @@ not_tied Greater h = absurd h
 none_below : (key : CellKey) (es : List (CellKey × List ℕ)) → T (below_all key_cmp key es) → find key_cmp key es ≡ None
 none_below key [] h = refl
 none_below key (e ∷ es) h =
-    ap (λ b. cond b (Some e.1) (find key_cmp key es)) (not_tied (key_cmp key e.0) (left _ (below_all key_cmp key es) h))
-    ∙ none_below key es (right (is_lt (key_cmp key e.0)) _ h)
+    ap (λ b. cond b (Some e.1) (find key_cmp key es)) (not_tied (key_cmp key e.0) (left_holds _ (below_all key_cmp key es) h))
+    ∙ none_below key es (right_holds (is_lt (key_cmp key e.0)) _ h)
 
 past : (here : Bool) (key first : CellKey) (value bytes : List ℕ) (es : List (CellKey × List ℕ)) → (here ≡ true → key ≡ first) → find key_cmp first es ≡ None → find key_cmp key es ≡ Some bytes
     → cond here (Some value) (find key_cmp key es) ≡ Some bytes
@@ -53,9 +46,9 @@ each_found : (P : CellKey → List ℕ → Type 0) (es : List (CellKey × List �
     → AllByRecursion (λ (e : CellKey × List ℕ). P e.0 e.1) es
 each_found P [] sorted at = tt
 each_found P (e ∷ es) sorted at =
-    let none = none_below e.0 es (left _ (is_sorted key_cmp es) sorted) in (
+    let none = none_below e.0 es (left_holds _ (is_sorted key_cmp es) sorted) in (
       at e.0 e.1 (ap (λ b. cond b (Some e.1) (find key_cmp e.0 es)) (ap is_eq (tied_itself keys_total e.0))),
-      each_found P es (right (below_all key_cmp e.0 es) _ sorted) (λ key bytes is.
+      each_found P es (right_holds (below_all key_cmp e.0 es) _ sorted) (λ key bytes is.
           at key bytes (past (eq_by_cmp key_cmp key e.0) key e.0 e.1 bytes es (tells_apart keys_exact key e.0) none is)),
     )
 
