@@ -1,6 +1,8 @@
 -- The lines between nodes: what the split rule gives to the cover by leaves.
 use Rattle.std.proofs.Common.{◌≡◌, ℕ, suc, ◌+◌, ◌-◌, ◌*◌, Bool, true, false, not, ◌&&◌, ◌||◌, List, refl, ap, sym, ◌∙◌, arith}
 use Rattle.std.specs.Prelude.{ℤ}
+use Rattle.std.proofs.lemmas.Bool.{or_left, or_right, or_parts}
+use Rattle.std.proofs.Math.Bool.{or-false}
 use Rattle.mesh_plane.proofs.QuadHeights.{IsFair}
 use Rattle.quad_split.specs.Node.{is_node}
 use Rattle.quad_split.specs.Fits.{fits_at}
@@ -9,35 +11,15 @@ use Rattle.quad_split.specs.Midpoints.{is_south_broken, is_west_broken, midpoint
 use Rattle.quad_split.specs.Laws.{AreBroken, AreWhereBroken, AreHalvesWhole}
 use Rattle.quad_split.proofs.Nodes.{node_x, node_y, is_node_yes, twice}
 
-or_left : (a b : Bool) → (a || b) ≡ false → a ≡ false
-or_left true b e = cc
-or_left false b e = refl
-
-or_right : (a b : Bool) → (a || b) ≡ false → b ≡ false
-or_right true b e = cc
-or_right false b e = e
-
-or_first : (a b : Bool) → a ≡ true → (a || b) ≡ true
-or_first true b e = refl
-or_first false b e = cc
-
-or_second : (a b : Bool) → b ≡ true → (a || b) ≡ true
-or_second true b e = refl
-or_second false b e = e
-
-or_false : (a : Bool) → (a || false) ≡ a
-or_false true = refl
-or_false false = refl
-
 -- the lines round a node that is split are broken
 pub broken : (p : ℕ → ℕ → ℕ → Bool) (k x y : ℕ) → p k x y ≡ true → AreBroken p k x y
 broken p k x y e =
     let i : x + 1 - 1 ≡ x = omega arith in let j : y + 1 - 1 ≡ y = omega arith in
     record {
-      south = or_first (p k x y) (p k x (y - 1)) e;
-      north = or_second (p k x (y + 1)) (p k x (y + 1 - 1)) (ap (p k x) j ∙ e);
-      west = or_first (p k x y) (p k (x - 1) y) e;
-      east = or_second (p k (x + 1) y) (p k (x + 1 - 1) y) (ap (λ n. p k n y) i ∙ e);
+      south = or_left (p k x y) (p k x (y - 1)) e;
+      north = or_right (p k x (y + 1)) (p k x (y + 1 - 1)) (ap (p k x) j ∙ e);
+      west = or_left (p k x y) (p k (x - 1) y) e;
+      east = or_right (p k (x + 1) y) (p k (x + 1 - 1) y) (ap (λ n. p k n y) i ∙ e);
     }
 
 -- a leaf has midpoints where they are
@@ -47,37 +29,37 @@ where_broken p k x y e =
     let i : x + 1 - 1 ≡ x = omega arith in let j : y + 1 - 1 ≡ y = omega arith in
     record {
       south = rw e;
-      north = sym (ap (λ (b : Bool). p k x (y + 1) || b) (ap (p k x) j ∙ e) ∙ or_false (p k x (y + 1)));
+      north = sym (ap (λ (b : Bool). p k x (y + 1) || b) (ap (p k x) j ∙ e) ∙ or-false (p k x (y + 1)));
       west = rw e;
-      east = sym (ap (λ (b : Bool). p k (x + 1) y || b) (ap (λ n. p k n y) i ∙ e) ∙ or_false (p k (x + 1) y));
+      east = sym (ap (λ (b : Bool). p k (x + 1) y || b) (ap (λ n. p k n y) i ∙ e) ∙ or-false (p k (x + 1) y));
     }
 
 -- where no node of half the side in the node or beside it is split, the halves of its sides are whole
 untouched : (f : ℕ → ℕ → Bool) (x y : ℕ) → touching f x y ≡ false → (k : ℕ) (p : ℕ → ℕ → ℕ → Bool)
     → ((u v : ℕ) → p k u v ≡ f u v) → AreHalvesWhole p k x y
 untouched f x y t k p e =
-    let past_south_west = or_right (f (2 * x) (2 * y)) _ t in
-    let past_south_east = or_right (f (2 * x + 1) (2 * y)) _ past_south_west in
-    let past_north_west = or_right (f (2 * x) (2 * y + 1)) _ past_south_east in
-    let past_north_east = or_right (f (2 * x + 1) (2 * y + 1)) _ past_north_west in
-    let past_west_low = or_right (f (2 * x - 1) (2 * y)) _ past_north_east in
-    let past_west_high = or_right (f (2 * x - 1) (2 * y + 1)) _ past_west_low in
-    let past_east_low = or_right (f (2 * x + 2) (2 * y)) _ past_west_high in
-    let past_east_high = or_right (f (2 * x + 2) (2 * y + 1)) _ past_east_low in
-    let past_south_left = or_right (f (2 * x) (2 * y - 1)) _ past_east_high in
-    let past_south_right = or_right (f (2 * x + 1) (2 * y - 1)) _ past_south_left in
-    let south_west = e _ _ ∙ or_left (f (2 * x) (2 * y)) _ t in
-    let south_east = e _ _ ∙ or_left (f (2 * x + 1) (2 * y)) _ past_south_west in
-    let north_west = e _ _ ∙ or_left (f (2 * x) (2 * y + 1)) _ past_south_east in
-    let north_east = e _ _ ∙ or_left (f (2 * x + 1) (2 * y + 1)) _ past_north_west in
-    let west_low = e _ _ ∙ or_left (f (2 * x - 1) (2 * y)) _ past_north_east in
-    let west_high = e _ _ ∙ or_left (f (2 * x - 1) (2 * y + 1)) _ past_west_low in
-    let east_low = e _ _ ∙ or_left (f (2 * x + 2) (2 * y)) _ past_west_high in
-    let east_high = e _ _ ∙ or_left (f (2 * x + 2) (2 * y + 1)) _ past_east_low in
-    let south_left = e _ _ ∙ or_left (f (2 * x) (2 * y - 1)) _ past_east_high in
-    let south_right = e _ _ ∙ or_left (f (2 * x + 1) (2 * y - 1)) _ past_south_left in
-    let north_left = e _ _ ∙ or_left (f (2 * x) (2 * y + 2)) (f (2 * x + 1) (2 * y + 2)) past_south_right in
-    let north_right = e _ _ ∙ or_right (f (2 * x) (2 * y + 2)) (f (2 * x + 1) (2 * y + 2)) past_south_right in
+    let past_south_west = (or_parts (f (2 * x) (2 * y)) _ t).1 in
+    let past_south_east = (or_parts (f (2 * x + 1) (2 * y)) _ past_south_west).1 in
+    let past_north_west = (or_parts (f (2 * x) (2 * y + 1)) _ past_south_east).1 in
+    let past_north_east = (or_parts (f (2 * x + 1) (2 * y + 1)) _ past_north_west).1 in
+    let past_west_low = (or_parts (f (2 * x - 1) (2 * y)) _ past_north_east).1 in
+    let past_west_high = (or_parts (f (2 * x - 1) (2 * y + 1)) _ past_west_low).1 in
+    let past_east_low = (or_parts (f (2 * x + 2) (2 * y)) _ past_west_high).1 in
+    let past_east_high = (or_parts (f (2 * x + 2) (2 * y + 1)) _ past_east_low).1 in
+    let past_south_left = (or_parts (f (2 * x) (2 * y - 1)) _ past_east_high).1 in
+    let past_south_right = (or_parts (f (2 * x + 1) (2 * y - 1)) _ past_south_left).1 in
+    let south_west = e _ _ ∙ (or_parts (f (2 * x) (2 * y)) _ t).0 in
+    let south_east = e _ _ ∙ (or_parts (f (2 * x + 1) (2 * y)) _ past_south_west).0 in
+    let north_west = e _ _ ∙ (or_parts (f (2 * x) (2 * y + 1)) _ past_south_east).0 in
+    let north_east = e _ _ ∙ (or_parts (f (2 * x + 1) (2 * y + 1)) _ past_north_west).0 in
+    let west_low = e _ _ ∙ (or_parts (f (2 * x - 1) (2 * y)) _ past_north_east).0 in
+    let west_high = e _ _ ∙ (or_parts (f (2 * x - 1) (2 * y + 1)) _ past_west_low).0 in
+    let east_low = e _ _ ∙ (or_parts (f (2 * x + 2) (2 * y)) _ past_west_high).0 in
+    let east_high = e _ _ ∙ (or_parts (f (2 * x + 2) (2 * y + 1)) _ past_east_low).0 in
+    let south_left = e _ _ ∙ (or_parts (f (2 * x) (2 * y - 1)) _ past_east_high).0 in
+    let south_right = e _ _ ∙ (or_parts (f (2 * x + 1) (2 * y - 1)) _ past_south_left).0 in
+    let north_left = e _ _ ∙ (or_parts (f (2 * x) (2 * y + 2)) (f (2 * x + 1) (2 * y + 2)) past_south_right).0 in
+    let north_right = e _ _ ∙ (or_parts (f (2 * x) (2 * y + 2)) (f (2 * x + 1) (2 * y + 2)) past_south_right).1 in
     let east_column : 2 * (x + 1) ≡ 2 * x + 2 = omega arith in
     let column_before_east : 2 * x + 2 - 1 ≡ 2 * x + 1 = omega arith in
     let north_row : 2 * (y + 1) ≡ 2 * y + 2 = omega arith in
@@ -107,7 +89,7 @@ halves_whole grid tol k x y n e =
         → AreHalvesWhole (is_split grid tol) k x y
     go false a b c t h = absurd (let z = a in cc)
     go true a b c t h = untouched (is_split grid tol k) x y (t
-        ∙ or_right b c h) k (is_split grid tol) (λ u v. refl)
+        ∙ (or_parts b c h).1) k (is_split grid tol) (λ u v. refl)
 
 -- a node that is not split fits
 pub unsplit_fits : (grid : List ℤ) (tol k x y : ℕ) → is_node (suc k) x y ≡ true

@@ -6,9 +6,9 @@ use Rattle.std.proofs.lemmas.List.Folds.{list_all-append}
 use Rattle.mesh_plane.specs.declared.corner.Corner.{Corner}
 use Rattle.mesh_plane.specs.Triangles.{Triple, tri_of}
 use Rattle.mesh_plane.specs.Quadtree.{line_of}
-use Rattle.quad_split.specs.Fan.{grid_corner, side_triangles}
+use Rattle.quad_split.specs.Fan.{side_triangles}
 use Rattle.quad_split.specs.Fits.{follows, fits_at}
-use Rattle.quad_split.specs.Window.{sides_follow, side_follows, corner_at, fan_at, grid_point}
+use Rattle.quad_split.specs.Window.{sides_follow, corner_at, fan_at, grid_point}
 use Rattle.quad_split.specs.declared.triangle.GridPoint.{GridPoint}
 use Rattle.quad_split.specs.declared.fan.Fan.{Fan}
 use Rattle.quad_split.specs.declared.fan.Side.{Side}

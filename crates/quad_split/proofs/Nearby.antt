@@ -1,6 +1,7 @@
 -- Which nodes of half the side lie in a node or beside it.
 use Rattle.std.proofs.Common.{◌≡◌, ◌∙◌, ℕ, zero, suc, ◌+◌, ◌-◌, ◌*◌, ◌≤◌, refl, sym, ap, arith, Bool, true, false, not, ◌&&◌, ◌||◌, List, inl, inr}
 use Rattle.std.specs.Prelude.{ℤ, ◌⊎◌, ◌↔◌, IsTrue}
+use Rattle.std.proofs.lemmas.Bool.{or_left, or_right}
 use Rattle.mesh_plane.specs.Quadtree.{line_of}
 use Rattle.mesh_plane.proofs.Quads.{line_left, line_right}
 use Rattle.quad_split.specs.Node.{is_node}
@@ -111,14 +112,6 @@ or_case : {P : Type 0} (a b : Bool) → (a || b) ≡ true → (a ≡ true → P)
 or_case true b e f g = f refl
 or_case false b e f g = g e
 
-first : (a b : Bool) → a ≡ true → (a || b) ≡ true
-first true b e = refl
-first false b e = absurd (let z = e in cc)
-
-second : (a b : Bool) → b ≡ true → (a || b) ≡ true
-second true b e = refl
-second false b e = e
-
 -- where the test holds at one of them there is a node near at which it does
 pub touched : {P : Type 0} (f : ℕ → ℕ → Bool) (k x y : ℕ) → touching f x y ≡ true
     → ((u v : ℕ) → f u v ≡ true → IsNear k x y u v → P) → P
@@ -151,63 +144,63 @@ touched f k x y t go =
 -- ---- back: where the test holds at a node near it holds at one of the twelve places
 module _ (f : ℕ → ℕ → Bool) (x y : ℕ) where
   south_west : f (2 * x) (2 * y) ≡ true → touching f x y ≡ true
-  south_west h = first (f (2 * x) (2 * y)) _ h
+  south_west h = or_left (f (2 * x) (2 * y)) _ h
 
   south_east : f (2 * x + 1) (2 * y) ≡ true → touching f x y ≡ true
-  south_east h = second (f (2 * x) (2 * y)) _ (first (f (2 * x + 1) (2 * y)) _ h)
+  south_east h = or_right (f (2 * x) (2 * y)) _ (or_left (f (2 * x + 1) (2 * y)) _ h)
 
   north_west : f (2 * x) (2 * y + 1) ≡ true → touching f x y ≡ true
-  north_west h = second (f (2 * x) (2 * y)) _ (second (f (2 * x + 1) (2 * y)) _ (first (f (2 * x)
+  north_west h = or_right (f (2 * x) (2 * y)) _ (or_right (f (2 * x + 1) (2 * y)) _ (or_left (f (2 * x)
       (2 * y + 1)) _ h))
 
   north_east : f (2 * x + 1) (2 * y + 1) ≡ true → touching f x y ≡ true
-  north_east h = second (f (2 * x) (2 * y)) _ (second (f (2 * x + 1) (2 * y)) _ (second (f (2 * x)
-      (2 * y + 1)) _ (first (f (2 * x + 1) (2 * y + 1)) _ h)))
+  north_east h = or_right (f (2 * x) (2 * y)) _ (or_right (f (2 * x + 1) (2 * y)) _ (or_right (f (2 * x)
+      (2 * y + 1)) _ (or_left (f (2 * x + 1) (2 * y + 1)) _ h)))
 
   west_low : f (2 * x - 1) (2 * y) ≡ true → touching f x y ≡ true
-  west_low h = second (f (2 * x) (2 * y)) _ (second (f (2 * x + 1) (2 * y)) _ (second (f (2 * x)
-      (2 * y + 1)) _ (second (f (2 * x + 1) (2 * y + 1)) _ (first (f (2 * x - 1) (2 * y)) _ h))))
+  west_low h = or_right (f (2 * x) (2 * y)) _ (or_right (f (2 * x + 1) (2 * y)) _ (or_right (f (2 * x)
+      (2 * y + 1)) _ (or_right (f (2 * x + 1) (2 * y + 1)) _ (or_left (f (2 * x - 1) (2 * y)) _ h))))
 
   west_high : f (2 * x - 1) (2 * y + 1) ≡ true → touching f x y ≡ true
-  west_high h = second (f (2 * x) (2 * y)) _ (second (f (2 * x + 1) (2 * y)) _ (second (f (2 * x)
-      (2 * y + 1)) _ (second (f (2 * x + 1) (2 * y + 1)) _ (second (f (2 * x - 1) (2 * y)) _ (first (f
+  west_high h = or_right (f (2 * x) (2 * y)) _ (or_right (f (2 * x + 1) (2 * y)) _ (or_right (f (2 * x)
+      (2 * y + 1)) _ (or_right (f (2 * x + 1) (2 * y + 1)) _ (or_right (f (2 * x - 1) (2 * y)) _ (or_left (f
       (2 * x - 1) (2 * y + 1)) _ h)))))
 
   east_low : f (2 * x + 2) (2 * y) ≡ true → touching f x y ≡ true
-  east_low h = second (f (2 * x) (2 * y)) _ (second (f (2 * x + 1) (2 * y)) _ (second (f (2 * x)
-      (2 * y + 1)) _ (second (f (2 * x + 1) (2 * y + 1)) _ (second (f (2 * x - 1) (2 * y)) _ (second (f
-      (2 * x - 1) (2 * y + 1)) _ (first (f (2 * x + 2) (2 * y)) _ h))))))
+  east_low h = or_right (f (2 * x) (2 * y)) _ (or_right (f (2 * x + 1) (2 * y)) _ (or_right (f (2 * x)
+      (2 * y + 1)) _ (or_right (f (2 * x + 1) (2 * y + 1)) _ (or_right (f (2 * x - 1) (2 * y)) _ (or_right (f
+      (2 * x - 1) (2 * y + 1)) _ (or_left (f (2 * x + 2) (2 * y)) _ h))))))
 
   east_high : f (2 * x + 2) (2 * y + 1) ≡ true → touching f x y ≡ true
-  east_high h = second (f (2 * x) (2 * y)) _ (second (f (2 * x + 1) (2 * y)) _ (second (f (2 * x)
-      (2 * y + 1)) _ (second (f (2 * x + 1) (2 * y + 1)) _ (second (f (2 * x - 1) (2 * y)) _ (second (f
-      (2 * x - 1) (2 * y + 1)) _ (second (f (2 * x + 2) (2 * y)) _ (first (f (2 * x + 2)
+  east_high h = or_right (f (2 * x) (2 * y)) _ (or_right (f (2 * x + 1) (2 * y)) _ (or_right (f (2 * x)
+      (2 * y + 1)) _ (or_right (f (2 * x + 1) (2 * y + 1)) _ (or_right (f (2 * x - 1) (2 * y)) _ (or_right (f
+      (2 * x - 1) (2 * y + 1)) _ (or_right (f (2 * x + 2) (2 * y)) _ (or_left (f (2 * x + 2)
       (2 * y + 1)) _ h)))))))
 
   south_first : f (2 * x) (2 * y - 1) ≡ true → touching f x y ≡ true
-  south_first h = second (f (2 * x) (2 * y)) _ (second (f (2 * x + 1) (2 * y)) _ (second (f (2 * x)
-      (2 * y + 1)) _ (second (f (2 * x + 1) (2 * y + 1)) _ (second (f (2 * x - 1) (2 * y)) _ (second (f
-      (2 * x - 1) (2 * y + 1)) _ (second (f (2 * x + 2) (2 * y)) _ (second (f (2 * x + 2) (2 * y + 1)) _
-      (first (f (2 * x) (2 * y - 1)) _ h))))))))
+  south_first h = or_right (f (2 * x) (2 * y)) _ (or_right (f (2 * x + 1) (2 * y)) _ (or_right (f (2 * x)
+      (2 * y + 1)) _ (or_right (f (2 * x + 1) (2 * y + 1)) _ (or_right (f (2 * x - 1) (2 * y)) _ (or_right (f
+      (2 * x - 1) (2 * y + 1)) _ (or_right (f (2 * x + 2) (2 * y)) _ (or_right (f (2 * x + 2) (2 * y + 1)) _
+      (or_left (f (2 * x) (2 * y - 1)) _ h))))))))
 
   south_last : f (2 * x + 1) (2 * y - 1) ≡ true → touching f x y ≡ true
-  south_last h = second (f (2 * x) (2 * y)) _ (second (f (2 * x + 1) (2 * y)) _ (second (f (2 * x)
-      (2 * y + 1)) _ (second (f (2 * x + 1) (2 * y + 1)) _ (second (f (2 * x - 1) (2 * y)) _ (second (f
-      (2 * x - 1) (2 * y + 1)) _ (second (f (2 * x + 2) (2 * y)) _ (second (f (2 * x + 2) (2 * y + 1)) _
-      (second (f (2 * x) (2 * y - 1)) _ (first (f (2 * x + 1) (2 * y - 1)) _ h)))))))))
+  south_last h = or_right (f (2 * x) (2 * y)) _ (or_right (f (2 * x + 1) (2 * y)) _ (or_right (f (2 * x)
+      (2 * y + 1)) _ (or_right (f (2 * x + 1) (2 * y + 1)) _ (or_right (f (2 * x - 1) (2 * y)) _ (or_right (f
+      (2 * x - 1) (2 * y + 1)) _ (or_right (f (2 * x + 2) (2 * y)) _ (or_right (f (2 * x + 2) (2 * y + 1)) _
+      (or_right (f (2 * x) (2 * y - 1)) _ (or_left (f (2 * x + 1) (2 * y - 1)) _ h)))))))))
 
   north_first : f (2 * x) (2 * y + 2) ≡ true → touching f x y ≡ true
-  north_first h = second (f (2 * x) (2 * y)) _ (second (f (2 * x + 1) (2 * y)) _ (second (f (2 * x)
-      (2 * y + 1)) _ (second (f (2 * x + 1) (2 * y + 1)) _ (second (f (2 * x - 1) (2 * y)) _ (second (f
-      (2 * x - 1) (2 * y + 1)) _ (second (f (2 * x + 2) (2 * y)) _ (second (f (2 * x + 2) (2 * y + 1)) _
-      (second (f (2 * x) (2 * y - 1)) _ (second (f (2 * x + 1) (2 * y - 1)) _ (first (f (2 * x)
+  north_first h = or_right (f (2 * x) (2 * y)) _ (or_right (f (2 * x + 1) (2 * y)) _ (or_right (f (2 * x)
+      (2 * y + 1)) _ (or_right (f (2 * x + 1) (2 * y + 1)) _ (or_right (f (2 * x - 1) (2 * y)) _ (or_right (f
+      (2 * x - 1) (2 * y + 1)) _ (or_right (f (2 * x + 2) (2 * y)) _ (or_right (f (2 * x + 2) (2 * y + 1)) _
+      (or_right (f (2 * x) (2 * y - 1)) _ (or_right (f (2 * x + 1) (2 * y - 1)) _ (or_left (f (2 * x)
       (2 * y + 2)) _ h))))))))))
 
   north_last : f (2 * x + 1) (2 * y + 2) ≡ true → touching f x y ≡ true
-  north_last h = second (f (2 * x) (2 * y)) _ (second (f (2 * x + 1) (2 * y)) _ (second (f (2 * x)
-      (2 * y + 1)) _ (second (f (2 * x + 1) (2 * y + 1)) _ (second (f (2 * x - 1) (2 * y)) _ (second (f
-      (2 * x - 1) (2 * y + 1)) _ (second (f (2 * x + 2) (2 * y)) _ (second (f (2 * x + 2) (2 * y + 1)) _
-      (second (f (2 * x) (2 * y - 1)) _ (second (f (2 * x + 1) (2 * y - 1)) _ (second (f (2 * x)
+  north_last h = or_right (f (2 * x) (2 * y)) _ (or_right (f (2 * x + 1) (2 * y)) _ (or_right (f (2 * x)
+      (2 * y + 1)) _ (or_right (f (2 * x + 1) (2 * y + 1)) _ (or_right (f (2 * x - 1) (2 * y)) _ (or_right (f
+      (2 * x - 1) (2 * y + 1)) _ (or_right (f (2 * x + 2) (2 * y)) _ (or_right (f (2 * x + 2) (2 * y + 1)) _
+      (or_right (f (2 * x) (2 * y - 1)) _ (or_right (f (2 * x + 1) (2 * y - 1)) _ (or_right (f (2 * x)
       (2 * y + 2)) _ h))))))))))
 
   by_two : {P : Type 0} (n a : ℕ) → a ≤ n → n ≤ a + 1 → (n ≡ a → P) → (n ≡ a + 1 → P) → P
@@ -262,8 +255,8 @@ outside grid tol zero x y h = refl
 outside grid tol (suc k) x y h = rw h
 
 -- what is split is a node
-split_node : (grid : List ℤ) (tol k x y : ℕ) → is_split grid tol k x y ≡ true → is_node k x y ≡ true
-split_node grid tol k x y h = go (is_node k x y) refl
+pub split_is_node : (grid : List ℤ) (tol k x y : ℕ) → is_split grid tol k x y ≡ true → is_node k x y ≡ true
+split_is_node grid tol k x y h = go (is_node k x y) refl
   where
     go : (b : Bool) → is_node k x y ≡ b → b ≡ true
     go true e = refl
@@ -281,7 +274,7 @@ larger grid tol k x y n = (λ h. there (is_node (suc k) x y) (fits_at grid tol (
     there true false e h = inl (λ f. let z = (fit_test grid tol k x y).1 f in absurd (cc (z, e)))
     there true true e h =
         inr (touched (is_split grid tol k) k x y h
-        (λ u v s r. record { x = u; y = v; place = split_node grid tol k u v s; split = s; near = r }))
+        (λ u v s r. record { x = u; y = v; place = split_is_node grid tol k u v s; split = s; near = r }))
 
     by : (a b t : Bool) → a ≡ true → (b ≡ false) ⊎ (t ≡ true) → (a && (not b || t)) ≡ true
     by false b t e h = absurd (let z = e in cc)

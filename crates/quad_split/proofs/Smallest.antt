@@ -1,5 +1,5 @@
 -- The triangles of a node of side 2 hold no grid points but their corners and the midpoints of the node's sides.
-use Rattle.std.proofs.Common.{◌≡◌, ℕ, ◌+◌, ◌*◌, ◌<◌, ◌≤◌, refl, sym, ◌∙◌, arith, subst, true, false, Bool, ◌&&◌, List, [], ◌∷◌}
+use Rattle.std.proofs.Common.{◌≡◌, ℕ, ◌+◌, ◌*◌, ◌≤◌, refl, sym, ◌∙◌, arith, subst, true, false, Bool, cond, ◌&&◌, Ordering, Less, Equal, Greater, List, [], ◌∷◌}
 use Rattle.std.specs.Prelude.{ℤ, pos, ◌-ℤ◌, ◌*ℤ◌, ◌≤ℤ◌, ◌<ℤ◌}
 use Rattle.std.proofs.lemmas.Int.{ints}
 use Rattle.terrain_base.specs.Grid.{height_in}
@@ -92,6 +92,71 @@ on_four P w e s n f g sw se nw ne i j a b c d =
 by_middle : {P : Type 0} (i m : ℕ) → (i ≤ m → P) → (m ≤ i → P) → P
 by_middle i m f g = grind arith
 
+-- ---- the triangles of a square of side 1, and of two such side by side
+abbrev window : ℕ → ℕ → ℕ → ℕ → Window
+window w e s n = record { west = w; east = e; south = s; north = n }
+
+inside : {w e s n i j : ℕ} → (w ≤ i) × (i ≤ e) → (s ≤ j) × (j ≤ n) → IsInWindow (window w e s n) (grid_point i j)
+inside column row = record { west = column.0; east = column.1; south = row.0; north = row.1 }
+
+-- the one of two lines, or the other
+in_two : (w e : ℕ) → e ≡ w + 1 → (last : Bool) → (w ≤ cond last e w) × (cond last e w ≤ e)
+in_two w e f true = (omega (arith, f), omega arith)
+in_two w e f false = (omega arith, omega (arith, f))
+
+-- the first of three lines, the middle one or the last
+abbrev of_three : ℕ → ℕ → ℕ → Ordering → ℕ
+of_three w x e Less = w
+of_three w x e Equal = x
+of_three w x e Greater = e
+
+in_three : (w x e : ℕ) → x ≡ w + 1 → e ≡ x + 1 → (o : Ordering) → (w ≤ of_three w x e o) × (of_three w x e o ≤ e)
+in_three w x e f g Less = (omega arith, omega (arith, f, g))
+in_three w x e f g Equal = (omega (arith, f), omega (arith, g))
+in_three w x e f g Greater = (omega (arith, f, g), omega arith)
+
+abbrev in_square : (w e s n : ℕ) → Bool × Bool → GridPoint
+in_square w e s n at = grid_point (cond at.0 e w) (cond at.1 n s)
+
+abbrev in_row : (w x e s n : ℕ) → Ordering × Bool → GridPoint
+in_row w x e s n at = grid_point (of_three w x e at.0) (cond at.1 n s)
+
+abbrev in_column : (w e s y n : ℕ) → Bool × Ordering → GridPoint
+in_column w e s y n at = grid_point (cond at.0 e w) (of_three s y n at.1)
+
+-- what holds at the grid points of the window holds at each that a triangle over them holds
+module _ (heights : List ℤ) (P : ℕ → ℕ → Type 0) where
+  on_square : (w e s n : ℕ) → e ≡ w + 1 → n ≡ s + 1 → P w s → P e s → P w n → P e n → (a b c : Bool × Bool)
+      → let t = tri_at heights (in_square w e s n a) (in_square w e s n b) (in_square w e s n c) in
+      IsCounterClockwise t → (i j : ℕ) → HoldsPoint t i j → P i j
+  on_square w e s n f g sw se nw ne a b c ccw i j h =
+      let within = λ (at : Bool × Bool). inside (in_two w e f at.0) (in_two s n g at.1) in
+      let k = is_within heights (window w e s n) (in_square w e s n a) (in_square w e s n b) (in_square w e s n c)
+      (within a) (within b) (within c) ccw i j h in
+      on_four P w e s n f g sw se nw ne i j k.west k.east k.south k.north
+
+  on_row : (w x e s n : ℕ) → x ≡ w + 1 → e ≡ x + 1 → n ≡ s + 1 → P w s → P x s → P e s → P w n → P x n → P e n
+      → (a b c : Ordering × Bool)
+      → let t = tri_at heights (in_row w x e s n a) (in_row w x e s n b) (in_row w x e s n c) in
+      IsCounterClockwise t → (i j : ℕ) → HoldsPoint t i j → P i j
+  on_row w x e s n f g r sw sx se nw nx ne a b c ccw i j h =
+      let within = λ (at : Ordering × Bool). inside (in_three w x e f g at.0) (in_two s n r at.1) in
+      let k = is_within heights (window w e s n) (in_row w x e s n a) (in_row w x e s n b) (in_row w x e s n c)
+      (within a) (within b) (within c) ccw i j h in
+      by_middle i x (λ l. on_four P w x s n f r sw sx nw nx i j k.west l k.south k.north)
+      (λ l. on_four P x e s n g r sx se nx ne i j l k.east k.south k.north)
+
+  on_column : (w e s y n : ℕ) → e ≡ w + 1 → y ≡ s + 1 → n ≡ y + 1 → P w s → P e s → P w y → P e y → P w n → P e n
+      → (a b c : Bool × Ordering)
+      → let t = tri_at heights (in_column w e s y n a) (in_column w e s y n b) (in_column w e s y n c) in
+      IsCounterClockwise t → (i j : ℕ) → HoldsPoint t i j → P i j
+  on_column w e s y n f r q sw se yw ye nw ne a b c ccw i j h =
+      let within = λ (at : Bool × Ordering). inside (in_two w e f at.0) (in_three s y n r q at.1) in
+      let k = is_within heights (window w e s n) (in_column w e s y n a) (in_column w e s y n b)
+      (in_column w e s y n c) (within a) (within b) (within c) ccw i j h in
+      by_middle j y (λ l. on_four P w e s y f r sw se yw ye i j k.west k.east k.south l)
+      (λ l. on_four P w e y n f q yw ye nw ne i j k.west k.east l k.north)
+
 and_true : (b : Bool) → (b && (true && (true && true))) ≡ b
 and_true true = refl
 and_true false = refl
@@ -167,64 +232,26 @@ module _ (heights : List ℤ) (tol : ℕ) where
         same ∙ rw (one, two) (sym (and_true (follows heights tol whole)))
 
 -- ---- the sides of a node of side 2
-abbrev window : ℕ → ℕ → ℕ → ℕ → Window
-window w e s n = record { west = w; east = e; south = s; north = n }
+next_place : (i j : ℕ) → j ≡ i + 1 → place i <ℤ place j
+next_place i j e = up i j (omega (arith, e))
 
-inside : (w e s n i j : ℕ) → w ≤ i → i ≤ e → s ≤ j → j ≤ n → IsInWindow (window w e s n) (grid_point i j)
-inside w e s n i j a b c d = record { west = a; east = b; south = c; north = d }
+-- where a corner of a square is: whether east, and whether north
+abbrev south_west : Bool × Bool
+south_west = (false, false)
+
+abbrev south_east : Bool × Bool
+south_east = (true, false)
+
+abbrev north_west : Bool × Bool
+north_west = (false, true)
+
+abbrev north_east : Bool × Bool
+north_east = (true, true)
 
 -- its columns are W, X and E, and its rows S, Y and N
 module _ (heights : List ℤ) (tol W X E S Y N : ℕ) (x : X ≡ W + 1) (e : E ≡ X + 1) (y : Y ≡ S + 1) (n : N ≡ Y + 1) where
   abbrev at : ℕ → ℕ → Corner
   at i j = corner_at heights (grid_point i j)
-
-  ww : W ≤ W
-  ww = omega (arith)
-
-  wx : W ≤ X
-  wx = omega (arith, x)
-
-  we : W ≤ E
-  we = omega (arith, x, e)
-
-  xx : X ≤ X
-  xx = omega (arith)
-
-  xe : X ≤ E
-  xe = omega (arith, e)
-
-  ee : E ≤ E
-  ee = omega (arith)
-
-  ss : S ≤ S
-  ss = omega (arith)
-
-  sy : S ≤ Y
-  sy = omega (arith, y)
-
-  sn : S ≤ N
-  sn = omega (arith, y, n)
-
-  yy : Y ≤ Y
-  yy = omega (arith)
-
-  yn : Y ≤ N
-  yn = omega (arith, n)
-
-  nn : N ≤ N
-  nn = omega (arith)
-
-  w_x : W < X
-  w_x = omega (arith, x)
-
-  x_e : X < E
-  x_e = omega (arith, e)
-
-  s_y : S < Y
-  s_y = omega (arith, y)
-
-  y_n : Y < N
-  y_n = omega (arith, n)
 
   abbrev south_side : Side
   south_side = side_between (grid_point X Y) (grid_point W S) (grid_point X S) (grid_point E S)
@@ -233,25 +260,11 @@ module _ (heights : List ℤ) (tol W X E S Y N : ℕ) (x : X ≡ W + 1) (e : E �
       → middle_follows heights tol south_side ≡ side_follows heights tol south_side
   south_by_middle good =
       side_by_middle heights tol south_side good (grid_point W Y) (grid_point E Y)
-      (beyond (at X Y) (at W S) (both_above _ _ _ _ (up W X w_x) (up S Y s_y)))
-      (aside (at E S) (at X Y) (both_above _ _ _ _ (up X E x_e) (up S Y s_y)))
-      (λ P pc pa pm pr i j h. let k = is_within heights (window W X S Y) (grid_point X Y) (grid_point W S) (grid_point X S)
-      (inside W X S Y X Y wx xx sy yy)
-      (inside W X S Y W S ww wx ss sy)
-      (inside W X S Y X S wx xx ss sy) good.first i j h in
-      on_four P W X S Y x y pa pm pr pc i j k.west k.east k.south k.north)
-      (λ P pc pm pb ps i j h. let k = is_within heights (window X E S Y) (grid_point X Y) (grid_point X S) (grid_point E S)
-      (inside X E S Y X Y xx xe sy yy)
-      (inside X E S Y X S xx xe ss sy)
-      (inside X E S Y E S xe ee ss sy) good.second i j h in
-      on_four P X E S Y e y pm pb pc ps i j k.west k.east k.south k.north)
-      (λ P pc pa pm pb pr ps i j h. let k = is_within heights (window W E S Y) (grid_point X Y) (grid_point W S) (grid_point E S)
-      (inside W E S Y X Y wx xe sy yy)
-      (inside W E S Y W S ww we ss sy)
-      (inside W E S Y E S we ee ss sy) good.whole i j h in
-      by_middle i X
-      (λ l. on_four P W X S Y x y pa pm pr pc i j k.west l k.south k.north)
-      (λ l. on_four P X E S Y e y pm pb pc ps i j l k.east k.south k.north))
+      (beyond (at X Y) (at W S) (both_above _ _ _ _ (next_place W X x) (next_place S Y y)))
+      (aside (at E S) (at X Y) (both_above _ _ _ _ (next_place X E e) (next_place S Y y)))
+      (λ P c a m r. on_square heights P W X S Y x y a m r c north_east south_west south_east good.first)
+      (λ P c m b s. on_square heights P X E S Y e y m b c s north_west south_west south_east good.second)
+      (λ P c a m b r s. on_row heights P W X E S Y x e y a m b r c s (Equal, true) (Less, false) (Greater, false) good.whole)
 
   abbrev east_side : Side
   east_side = side_between (grid_point X Y) (grid_point E S) (grid_point E Y) (grid_point E N)
@@ -260,25 +273,11 @@ module _ (heights : List ℤ) (tol W X E S Y N : ℕ) (x : X ≡ W + 1) (e : E �
       → middle_follows heights tol east_side ≡ side_follows heights tol east_side
   east_by_middle good =
       side_by_middle heights tol east_side good (grid_point X S) (grid_point X N)
-      (aside (at X Y) (at E S) (both_below _ _ _ _ (up X E x_e) (up S Y s_y)))
-      (beyond (at E N) (at X Y) (both_above _ _ _ _ (up X E x_e) (up Y N y_n)))
-      (λ P pc pa pm pr i j h. let k = is_within heights (window X E S Y) (grid_point X Y) (grid_point E S) (grid_point E Y)
-      (inside X E S Y X Y xx xe sy yy)
-      (inside X E S Y E S xe ee ss sy)
-      (inside X E S Y E Y xe ee sy yy) good.first i j h in
-      on_four P X E S Y e y pr pa pc pm i j k.west k.east k.south k.north)
-      (λ P pc pm pb ps i j h. let k = is_within heights (window X E Y N) (grid_point X Y) (grid_point E Y) (grid_point E N)
-      (inside X E Y N X Y xx xe yy yn)
-      (inside X E Y N E Y xe ee yy yn)
-      (inside X E Y N E N xe ee yn nn) good.second i j h in
-      on_four P X E Y N e n pc pm ps pb i j k.west k.east k.south k.north)
-      (λ P pc pa pm pb pr ps i j h. let k = is_within heights (window X E S N) (grid_point X Y) (grid_point E S) (grid_point E N)
-      (inside X E S N X Y xx xe sy yn)
-      (inside X E S N E S xe ee ss sn)
-      (inside X E S N E N xe ee sn nn) good.whole i j h in
-      by_middle j Y
-      (λ l. on_four P X E S Y e y pr pa pc pm i j k.west k.east k.south l)
-      (λ l. on_four P X E Y N e n pc pm ps pb i j k.west k.east l k.north))
+      (aside (at X Y) (at E S) (both_below _ _ _ _ (next_place X E e) (next_place S Y y)))
+      (beyond (at E N) (at X Y) (both_above _ _ _ _ (next_place X E e) (next_place Y N n)))
+      (λ P c a m r. on_square heights P X E S Y e y r a c m north_west south_east north_east good.first)
+      (λ P c m b s. on_square heights P X E Y N e n c m s b south_west south_east north_east good.second)
+      (λ P c a m b r s. on_column heights P X E S Y N e y n r a c m s b (false, Equal) (true, Less) (true, Greater) good.whole)
 
   abbrev north_side : Side
   north_side = side_between (grid_point X Y) (grid_point E N) (grid_point X N) (grid_point W N)
@@ -287,25 +286,11 @@ module _ (heights : List ℤ) (tol W X E S Y N : ℕ) (x : X ≡ W + 1) (e : E �
       → middle_follows heights tol north_side ≡ side_follows heights tol north_side
   north_by_middle good =
       side_by_middle heights tol north_side good (grid_point E Y) (grid_point W Y)
-      (beyond (at X Y) (at E N) (both_below _ _ _ _ (up X E x_e) (up Y N y_n)))
-      (aside (at W N) (at X Y) (both_below _ _ _ _ (up W X w_x) (up Y N y_n)))
-      (λ P pc pa pm pr i j h. let k = is_within heights (window X E Y N) (grid_point X Y) (grid_point E N) (grid_point X N)
-      (inside X E Y N X Y xx xe yy yn)
-      (inside X E Y N E N xe ee yn nn)
-      (inside X E Y N X N xx xe yn nn) good.first i j h in
-      on_four P X E Y N e n pc pr pm pa i j k.west k.east k.south k.north)
-      (λ P pc pm pb ps i j h. let k = is_within heights (window W X Y N) (grid_point X Y) (grid_point X N) (grid_point W N)
-      (inside W X Y N X Y wx xx yy yn)
-      (inside W X Y N X N wx xx yn nn)
-      (inside W X Y N W N ww wx yn nn) good.second i j h in
-      on_four P W X Y N x n ps pc pb pm i j k.west k.east k.south k.north)
-      (λ P pc pa pm pb pr ps i j h. let k = is_within heights (window W E Y N) (grid_point X Y) (grid_point E N) (grid_point W N)
-      (inside W E Y N X Y wx xe yy yn)
-      (inside W E Y N E N we ee yn nn)
-      (inside W E Y N W N ww we yn nn) good.whole i j h in
-      by_middle i X
-      (λ l. on_four P W X Y N x n ps pc pb pm i j k.west l k.south k.north)
-      (λ l. on_four P X E Y N e n pc pr pm pa i j l k.east k.south k.north))
+      (beyond (at X Y) (at E N) (both_below _ _ _ _ (next_place X E e) (next_place Y N n)))
+      (aside (at W N) (at X Y) (both_below _ _ _ _ (next_place W X x) (next_place Y N n)))
+      (λ P c a m r. on_square heights P X E Y N e n c r m a south_west north_east north_west good.first)
+      (λ P c m b s. on_square heights P W X Y N x n s c b m south_east north_east north_west good.second)
+      (λ P c a m b r s. on_row heights P W X E Y N x e n s c r b m a (Equal, false) (Greater, true) (Less, true) good.whole)
 
   abbrev west_side : Side
   west_side = side_between (grid_point X Y) (grid_point W N) (grid_point W Y) (grid_point W S)
@@ -314,25 +299,11 @@ module _ (heights : List ℤ) (tol W X E S Y N : ℕ) (x : X ≡ W + 1) (e : E �
       → middle_follows heights tol west_side ≡ side_follows heights tol west_side
   west_by_middle good =
       side_by_middle heights tol west_side good (grid_point X N) (grid_point X S)
-      (aside (at X Y) (at W N) (both_above _ _ _ _ (up W X w_x) (up Y N y_n)))
-      (beyond (at W S) (at X Y) (both_below _ _ _ _ (up W X w_x) (up S Y s_y)))
-      (λ P pc pa pm pr i j h. let k = is_within heights (window W X Y N) (grid_point X Y) (grid_point W N) (grid_point W Y)
-      (inside W X Y N X Y wx xx yy yn)
-      (inside W X Y N W N ww wx yn nn)
-      (inside W X Y N W Y ww wx yy yn) good.first i j h in
-      on_four P W X Y N x n pm pc pa pr i j k.west k.east k.south k.north)
-      (λ P pc pm pb ps i j h. let k = is_within heights (window W X S Y) (grid_point X Y) (grid_point W Y) (grid_point W S)
-      (inside W X S Y X Y wx xx sy yy)
-      (inside W X S Y W Y ww wx sy yy)
-      (inside W X S Y W S ww wx ss sy) good.second i j h in
-      on_four P W X S Y x y pb ps pm pc i j k.west k.east k.south k.north)
-      (λ P pc pa pm pb pr ps i j h. let k = is_within heights (window W X S N) (grid_point X Y) (grid_point W N) (grid_point W S)
-      (inside W X S N X Y wx xx sy yn)
-      (inside W X S N W N ww wx sn nn)
-      (inside W X S N W S ww wx ss sn) good.whole i j h in
-      by_middle j Y
-      (λ l. on_four P W X S Y x y pb ps pm pc i j k.west k.east k.south l)
-      (λ l. on_four P W X Y N x n pm pc pa pr i j k.west k.east l k.north))
+      (aside (at X Y) (at W N) (both_above _ _ _ _ (next_place W X x) (next_place Y N n)))
+      (beyond (at W S) (at X Y) (both_below _ _ _ _ (next_place W X x) (next_place S Y y)))
+      (λ P c a m r. on_square heights P W X Y N x n m c a r south_east north_west south_west good.first)
+      (λ P c m b s. on_square heights P W X S Y x y b s m c north_east north_west south_west good.second)
+      (λ P c a m b r s. on_column heights P W X S Y N x y n b s m c a r (true, Equal) (false, Greater) (false, Less) good.whole)
 
 -- a node of side 2 follows the heights where the triangle of each whole side does at the side's midpoint
 pub by_middles : (heights : List ℤ) (tol x y : ℕ) → AreSidesOf heights (fan_at 0 x y)

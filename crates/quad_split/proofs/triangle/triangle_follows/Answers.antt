@@ -1,5 +1,3 @@
-use Rattle.std.proofs.Common.{ap, ◌∙◌, sym, subst}
-use Rattle.quad_split.specs.Window.{IsTriOf}
 use Rattle.quad_split.proofs.Windows.{is_in_window}
 use Rattle.quad_split.proofs.triangle.triangle_follows.Goals as goal
 
