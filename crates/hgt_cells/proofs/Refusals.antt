@@ -1,44 +1,27 @@
 -- Which files are refused, and where.
-use Rattle.std.proofs.Common.{
-  ◌≡◌,
-  ℕ,
-  ℤ,
-  ◌+◌,
-  ◌*◌,
-  ◌/◌,
-  ◌%◌,
-  ◌<◌,
-  Bool,
-  pos,
-  true,
-  false,
-  List,
-  length,
-  Option,
-  Some,
-  None,
-  refl,
-  sym,
-  ap,
-  ◌∙◌,
-  subst,
-  arith,
-  inl,
-  inr,
-  ◌⊎◌,
-}
-use Rattle.std.specs.Prelude.{option_map, ◌↔◌}
+use Rattle.std.proofs.Common.{◌≡◌, ℕ, ℤ, ◌+◌, ◌*◌, ◌/◌, ◌%◌, ◌<◌, Bool, pos, true, false, List, length, Option, Some, None, refl, sym, ap, ◌∙◌, subst, arith, inl, inr}
+use Rattle.std.specs.Prelude.{not, ◌↔◌}
+use Rattle.std.specs.Option.{option_or}
 use Rattle.std.proofs.lemmas.Nat.{mul-add-lt}
-use Rattle.std.proofs.lemmas.Bool.{cases_Bool, true≢false}
+use Rattle.std.proofs.lemmas.Bool.{true≢false}
 use Rattle.std.proofs.lemmas.Option.{none-some}
 use Rattle.std.proofs.Math.Nat.{div-add-mod, div-lt_iff_lt-mul, mod-lt}
+use Rattle.common_laws.specs.First.{◌when◌, first_of}
+use Rattle.common_laws.proofs.First.{neither, none_of_two, not_when, when_not, none_of_map, none_by_map, stands_at}
 use Rattle.hgt_cells.specs.declared.refusal.HgtRefusal.{HgtRefusal}
 use Rattle.hgt_cells.specs.declared.refusal.HgtRefusal.TheVariants.{BadLength, HeightOutOfRange}
 use Rattle.hgt_cells.specs.Sample.{number_at, IsSample}
 use Rattle.hgt_cells.specs.File.{has_lines, lines_in, sample_in, IsHgt}
-use Rattle.hgt_cells.specs.Refusal.{is_bad, refused_at, first_bad, hgt_refusal_of, IsBefore}
+use Rattle.hgt_cells.specs.Refusal.{
+  is_bad,
+  refused_at,
+  number_condition,
+  number_conditions,
+  conditions_of,
+  hgt_refusal_of,
+  IsBefore,
+}
 use Rattle.hgt_cells.specs.Laws.{IsFirstBad}
-use Rattle.hgt_cells.proofs.Finds.{finds, find_none, none_passes}
 use Rattle.hgt_cells.proofs.Files.{sample_good, good_passes, bad_is_none}
 
 -- the sample of a line and a place is one of the file's numbers
@@ -63,58 +46,47 @@ number_is bytes k =
     ∙ ap (λ i. number_at bytes (2 * i)) (div-add-mod k (lines_in bytes))
 
 -- ---- no refusal
-map_none : (f : ℕ → HgtRefusal) (o : Option ℕ) → option_map f o ≡ None → o ≡ None
-map_none f None none = refl
-map_none f (Some k) none = absurd (none-some (f k) (sym none))
+not_false : (b : Bool) → not b ≡ false → b ≡ true
+not_false true e = refl
+not_false false e = cc
 
-all_good : (bytes : List ℕ) → first_bad bytes ≡ None → (line place : ℕ) → line < lines_in bytes
+no_length : (bytes : List ℕ) → (BadLength (length bytes) when not (has_lines bytes)) ≡ None → has_lines bytes ≡ true
+no_length bytes none =
+    not_false (has_lines bytes) (not_when (BadLength (length bytes)) (not (has_lines bytes)) none)
+
+all_good : (bytes : List ℕ) → first_of (number_conditions bytes) ≡ None → (line place : ℕ) → line < lines_in bytes
     → place < lines_in bytes → IsSample (sample_in bytes line place)
-unfolding first_bad
+unfolding number_conditions
 all_good bytes none line place l p =
     let lines = lines_in bytes in
+    let k = lines * line + place in
     let inside = mul-add-lt line lines place lines l p in
-    let passed = none_passes (is_bad bytes) 0 (lines * lines) none (lines * line + place) (omega arith)
-    (omega (arith, inside)) in
+    let passed = none_of_map (number_condition bytes) (lines * lines) k none (omega (arith, inside)) in
     subst IsSample (sym (sample_is bytes line place))
-    (sample_good (number_at bytes (2 * (lines * line + place))) passed)
+    (sample_good (number_at bytes (2 * k)) (not_when (refused_at bytes k) (is_bad bytes k) passed))
 
 none_bad : (bytes : List ℕ)
     → ((line place : ℕ) → line < lines_in bytes → place < lines_in bytes → IsSample (sample_in bytes line place))
-    → first_bad bytes ≡ None
-unfolding first_bad
+    → first_of (number_conditions bytes) ≡ None
+unfolding number_conditions
 none_bad bytes good =
     let lines = lines_in bytes in
-    find_none (is_bad bytes) 0 (lines * lines) (λ k above below.
-    let inside : k < lines_in bytes * lines_in bytes = omega (arith, below) in
+    none_by_map (number_condition bytes) (lines * lines) (λ k inside.
     let line = line_within bytes k inside in
-    good_passes (number_at bytes (2 * k))
-    (subst IsSample (number_is bytes k) (good (k / lines) (k % lines) line (mod-lt k (some_lines bytes)))))
-
-has_no_length : (bytes : List ℕ) → hgt_refusal_of bytes ≡ None → has_lines bytes ≡ true
-unfolding hgt_refusal_of
-has_no_length bytes none = cases (cases_Bool (has_lines bytes))
-  where
-    cases : ((has_lines bytes ≡ true) ⊎ (has_lines bytes ≡ false)) → has_lines bytes ≡ true
-    cases (inl lines) = lines
-    cases (inr other) =
-        let refused : Some (BadLength (length bytes)) ≡ None = rw other at none in
-        absurd (none-some (BadLength (length bytes)) (sym refused))
-
-by_samples : (bytes : List ℕ) → has_lines bytes ≡ true
-    → hgt_refusal_of bytes ≡ option_map (refused_at bytes) (first_bad bytes)
-unfolding hgt_refusal_of
-by_samples bytes lines = rw lines refl
+    let sample = subst IsSample (number_is bytes k) (good (k / lines) (k % lines) line (mod-lt k (some_lines bytes))) in
+    when_not (refused_at bytes k) (is_bad bytes k) (good_passes (number_at bytes (2 * k)) sample))
 
 pub accepted : (bytes : List ℕ) → hgt_refusal_of bytes ≡ None → IsHgt bytes
+unfolding hgt_refusal_of conditions_of
 accepted bytes none =
-    let lines = has_no_length bytes none in
-    record {
-      size = lines;
-      samples = all_good bytes (map_none (refused_at bytes) (first_bad bytes) (sym (by_samples bytes lines) ∙ none));
-    }
+    let both = neither (BadLength (length bytes) when not (has_lines bytes)) (first_of (number_conditions bytes)) none in
+    record { size = no_length bytes both.0; samples = all_good bytes both.1 }
 
 pub none_refused : (bytes : List ℕ) → IsHgt bytes → hgt_refusal_of bytes ≡ None
-none_refused bytes good = by_samples bytes good.size ∙ ap (option_map (refused_at bytes)) (none_bad bytes good.samples)
+unfolding hgt_refusal_of conditions_of
+none_refused bytes good =
+    none_of_two (BadLength (length bytes) when not (has_lines bytes)) (first_of (number_conditions bytes))
+    (when_not (BadLength (length bytes)) (not (has_lines bytes)) (rw good.size refl)) (none_bad bytes good.samples)
 
 -- ---- the first refusal
 abbrev line_of : Option HgtRefusal → ℕ
@@ -137,24 +109,22 @@ of_length None = false
 of_length (Some (BadLength have)) = true
 of_length (Some (HeightOutOfRange line place value)) = false
 
-first_at : (bytes : List ℕ) (k : ℕ) → first_bad bytes ≡ Some k
+-- a number that is no sample, behind none
+first_at : (bytes : List ℕ) (k : ℕ) → k < lines_in bytes * lines_in bytes → is_bad bytes k ≡ true
+    → ((j : ℕ) → j < k → number_condition bytes j ≡ None)
     → IsFirstBad bytes (k / lines_in bytes) (k % lines_in bytes) (number_at bytes (2 * k))
-unfolding first_bad
-first_at bytes k found =
+first_at bytes k inside bad earlier =
     let lines = lines_in bytes in
-    let first = finds (is_bad bytes) 0 (lines * lines) k found in
-    let inside : k < lines_in bytes * lines_in bytes = omega (arith, first.1) in
     let whole = div-add-mod k lines in
-    let good : (j : ℕ) → j < k
-    → IsSample (number_at bytes (2 * j)) = λ j below. sample_good (number_at bytes (2 * j))
-    (first.0.others j (omega arith) below) in
+    let good : (j : ℕ) → j < k → IsSample (number_at bytes (2 * j)) =
+    λ j below. sample_good (number_at bytes (2 * j)) (not_when (refused_at bytes j) (is_bad bytes j) (earlier j below)) in
     record {
       line_within = line_within bytes k inside;
       place_within = mod-lt k (some_lines bytes);
       sample = number_is bytes k;
-      bad = bad_is_none (number_at bytes (2 * k)) first.0.passes;
-      before = λ other there o t earlier. subst IsSample (sym (sample_is bytes other there))
-          (good (lines * other + there) (earlier_index lines other there k whole o t earlier));
+      bad = bad_is_none (number_at bytes (2 * k)) bad;
+      before = λ other there o t before. subst IsSample (sym (sample_is bytes other there))
+          (good (lines * other + there) (earlier_index lines other there k whole o t before));
     }
   where
     earlier_index : (lines other there k : ℕ) → lines * (k / lines) + k % lines ≡ k → other < lines → there < lines
@@ -165,27 +135,38 @@ first_at bytes k found =
         let same : lines * other ≡ lines * (k / lines) = ap (λ line. lines * line) west.0 in
         omega (arith, whole, same, west.1)
 
+-- what stands of one that may
+stands_where : (refusal other : HgtRefusal) (holds : Bool) → (refusal when holds) ≡ Some other
+    → (holds ≡ true) × (Some refusal ≡ Some other)
+stands_where refusal other true e = (refl, e)
+stands_where refusal other false e = absurd (none-some other e)
+
+-- a sample is refused, and no length
+by_numbers : (bytes : List ℕ) (line place : ℕ) (value : ℤ)
+    → hgt_refusal_of bytes ≡ Some (HeightOutOfRange line place value)
+    → first_of (number_conditions bytes) ≡ Some (HeightOutOfRange line place value)
+unfolding hgt_refusal_of conditions_of
+by_numbers bytes line place value refused = of_test (not (has_lines bytes)) (first_of (number_conditions bytes)) refused
+  where
+    of_test : (b : Bool) (first : Option HgtRefusal)
+        → option_or (BadLength (length bytes) when b) first ≡ Some (HeightOutOfRange line place value)
+        → first ≡ Some (HeightOutOfRange line place value)
+    of_test true first e = absurd (true≢false (ap of_length e))
+    of_test false first e = e
+
 pub first_refused : (bytes : List ℕ) (line place : ℕ) (value : ℤ)
     → hgt_refusal_of bytes ≡ Some (HeightOutOfRange line place value) → IsFirstBad bytes line place value
-unfolding hgt_refusal_of
-first_refused bytes line place value refused = cases (cases_Bool (has_lines bytes))
-  where
-    at_sample : (o : Option ℕ) → first_bad bytes ≡ o
-        → option_map (refused_at bytes) o ≡ Some (HeightOutOfRange line place value) → IsFirstBad bytes line place value
-    at_sample None e there = absurd (none-some (HeightOutOfRange line place value) there)
-    at_sample (Some k) e there =
-        let lines = lines_in bytes in
-        let found = first_at bytes k e in
-        let same_line : k / lines ≡ line = ap line_of there in
-        let same_place : k % lines ≡ place = ap place_of there in
-        let same_value : number_at bytes (2 * k) ≡ value = ap value_of there in
-        let at_line = subst (λ l. IsFirstBad bytes l (k % lines) (number_at bytes (2 * k))) same_line found in
-        let at_place = subst (λ p. IsFirstBad bytes line p (number_at bytes (2 * k))) same_place at_line in
-        subst (IsFirstBad bytes line place) same_value at_place
-
-    cases : ((has_lines bytes ≡ true) ⊎ (has_lines bytes ≡ false)) → IsFirstBad bytes line place value
-    cases (inl lines) = at_sample (first_bad bytes) refl (sym (by_samples bytes lines) ∙ refused)
-    cases (inr other) =
-        let by_length : Some (BadLength (length bytes)) ≡ Some
-        (HeightOutOfRange line place value) = rw other at refused in
-        absurd (true≢false (ap of_length by_length))
+unfolding number_conditions
+first_refused bytes line place value refused =
+    let lines = lines_in bytes in
+    let refusal = HeightOutOfRange line place value in
+    let at = stands_at (number_condition bytes) (lines * lines) refusal (by_numbers bytes line place value refused) in
+    let k = at.number in
+    let here = stands_where (refused_at bytes k) refusal (is_bad bytes k) at.stands in
+    let found = first_at bytes k at.within here.0 at.before in
+    let same_line : k / lines ≡ line = ap line_of here.1 in
+    let same_place : k % lines ≡ place = ap place_of here.1 in
+    let same_value : number_at bytes (2 * k) ≡ value = ap value_of here.1 in
+    let at_line = subst (λ l. IsFirstBad bytes l (k % lines) (number_at bytes (2 * k))) same_line found in
+    let at_place = subst (λ p. IsFirstBad bytes line p (number_at bytes (2 * k))) same_place at_line in
+    subst (IsFirstBad bytes line place) same_value at_place

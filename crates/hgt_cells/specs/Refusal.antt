@@ -8,15 +8,16 @@ use Rattle.std.specs.Prelude.{
   ◌%◌,
   ◌<◌,
   List,
+  ◌∷◌,
   length,
+  map,
   Bool,
+  not,
   Option,
-  Some,
-  option_map,
-  if◌then◌else◌,
   ◌⊎◌,
 }
-use Rattle.std.specs.List.{find, range_with_len}
+use Rattle.std.specs.List.{range_with_len}
+use Rattle.common_laws.specs.First.{◌when◌, first_of}
 use Rattle.hgt_cells.specs.declared.refusal.HgtRefusal.{HgtRefusal}
 use Rattle.hgt_cells.specs.declared.refusal.HgtRefusal.TheVariants.{BadLength, HeightOutOfRange}
 use Rattle.hgt_cells.specs.Sample.{number_at, is_no_sample}
@@ -30,14 +31,21 @@ is_bad bytes k = is_no_sample (number_at bytes (2 * k))
 abbrev pub refused_at : List ℕ → ℕ → HgtRefusal
 refused_at bytes k = HeightOutOfRange (k / lines_in bytes) (k % lines_in bytes) (number_at bytes (2 * k))
 
--- the first number of the file that is no sample
-unfoldable pub first_bad : List ℕ → Option ℕ
-first_bad bytes = find (is_bad bytes) (range_with_len 0 (lines_in bytes * lines_in bytes))
+-- the k-th number of the file is no sample
+abbrev pub number_condition : List ℕ → ℕ → Option HgtRefusal
+number_condition bytes k = (refused_at bytes k when is_bad bytes k)
+
+-- the numbers', line by line
+unfoldable pub number_conditions : List ℕ → List (Option HgtRefusal)
+number_conditions bytes = map (number_condition bytes) (range_with_len 0 (lines_in bytes * lines_in bytes))
+
+-- all of them, in order
+unfoldable pub conditions_of : List ℕ → List (Option HgtRefusal)
+conditions_of bytes = (BadLength (length bytes) when not (has_lines bytes)) ∷ number_conditions bytes
 
 -- the refusal of a file, and none where it is an HGT file
 unfoldable pub hgt_refusal_of : List ℕ → Option HgtRefusal
-hgt_refusal_of bytes =
-    if has_lines bytes then option_map (refused_at bytes) (first_bad bytes) else Some (BadLength (length bytes))
+hgt_refusal_of bytes = first_of (conditions_of bytes)
 
 -- a line and a place come before others: on a line further north, or on the same and further west
 abbrev pub IsBefore : ℕ → ℕ → ℕ → ℕ → Type 0

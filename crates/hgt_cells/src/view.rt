@@ -1,9 +1,10 @@
 // An HGT file, read where its bytes lie.
 ghost use Rattle.std.specs.Prelude.{◌≡◌, ◌+◌, ◌*◌, ◌<◌, ◌≤◌, length, IfOk, IfSome, IsOk, ◌↔◌, option_map};
 ghost use Rattle.std.specs.Result.{result_err};
+ghost use Rattle.common_laws.specs.First.{first_of};
 ghost use Rattle.terrain_base.specs.Level.{zone_factor_of};
 ghost use Rattle.hgt_cells.specs.File.{IsHgt, has_lines, level_in, lines_in, sample_in};
-ghost use Rattle.hgt_cells.specs.Refusal.{first_bad, refused_at, hgt_refusal_of};
+ghost use Rattle.hgt_cells.specs.Refusal.{refused_at, number_conditions, hgt_refusal_of};
 ghost use Rattle.dted_write.specs.Post.{IsPost};
 ghost use Rattle.hgt_cells.specs.Sample.{post_of};
 ghost use Rattle.hgt_cells.specs.Cell.{hgt_post};
@@ -50,10 +51,10 @@ fn lines(bytes: &[u8]) -> u16
 }
 
 // The first number of a file that is no sample.
-#[tactic(auto, unfolding(crate::specs::Refusal::first_bad), using(crate::proofs::Finds::find_next, crate::proofs::Finds::find_here))]
+#[tactic(auto, unfolding(crate::specs::Refusal::number_conditions), using(common_laws::proofs::First::map_next, common_laws::proofs::First::map_found))]
 fn first_bad(bytes: &[u8]) -> Option<usize>
     requires { length bytes.now ≡ 2 * (lines_in bytes.now * lines_in bytes.now) }
-    ensures value { result ≡ first_bad bytes.now }
+    ensures value { option_map (refused_at bytes.now) result ≡ first_of (number_conditions bytes.now) }
     ensures within { IfSome result (λ k. k < lines_in bytes.now * lines_in bytes.now) }
 {
     let lines = lines(bytes) as usize;
@@ -80,7 +81,7 @@ fn refused_at(bytes: &[u8], k: usize) -> HgtRefusal
 }
 
 // The refusal of a file.
-#[tactic(auto, unfolding(crate::specs::Refusal::hgt_refusal_of), using(crate::proofs::Files::file_length))]
+#[tactic(auto, unfolding(crate::specs::Refusal::hgt_refusal_of, crate::specs::Refusal::conditions_of), using(crate::proofs::Files::file_length))]
 fn refusal(bytes: &[u8]) -> Option<HgtRefusal>
     ensures { result ≡ hgt_refusal_of bytes.now }
 {
