@@ -25,6 +25,7 @@ use Rattle.cell_cache.proofs.Told.{is_told, still_told}
 
 -- ---- troubles
 
+-- a cell that is held shows no trouble
 pub no_trouble : (key : CellKey) (bytes : List ℕ) (trouble : CellTrouble) → IsCellAt key bytes → ShowsAt key (Some bytes) trouble → ⊥
 no_trouble key bytes (Lost name) cell shown = absurd (cc)
 no_trouble key bytes (Bad name refusal) cell shown = absurd (let none = cell.accepted in cc)

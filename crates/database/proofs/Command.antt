@@ -1,4 +1,5 @@
 -- The changes of a command, begun on closed files, and those of settling.
+use Rattle.common_laws.proofs.Options.{some_beside_none}
 use Rattle.terrain_base.specs.declared.tile.TileId.{TileId}
 use Rattle.database.proofs.Given.{by_text_total, square_of, keys_total}
 use Rattle.terrain_base.specs.declared.name.Key.{Key}
@@ -13,11 +14,11 @@ use Rattle.terrain_base.specs.CellKey.{key_cmp}
 use Rattle.tile_deps.specs.Tiles.{touched}
 use Rattle.database.specs.State.{State, IsState, file_of, AreFiles, is_changed, is_free, is_stage, StandsMarked, StandsFor}
 use Rattle.database.specs.Commands.{key_of, Edit, PutCell, DropCell, after, inner_names, changed_names, marked_text, closing, calls, OldOrNew}
-use Rattle.database.proofs.Tests.{is_name, name_other, key_self, key_same}
+use Rattle.database.proofs.Tests.{is_name, name_other, key_self}
 use Rattle.database.proofs.Among.{not_tile, among_changed}
 use Rattle.database.proofs.Local.{AgreeBut, files_local}
 use Rattle.database.proofs.Standing.{over_at, Covers, closed_stands, stage_apart, closing_stands, over_all}
-use Rattle.std.proofs.Common.{◌≡◌, ℕ, zero, suc, ◌≤◌, Bool, true, false, not, is_some, cond, List, [], ◌∷◌, ◌++◌, length, take, Option, Some, None, refl, sym, ap, subst, ◌∙◌, inl, inr, arith, append_assoc, Result, Ok, Err, OnOk, OnErr, IfSome}
+use Rattle.std.proofs.Common.{◌≡◌, ℕ, zero, suc, ◌≤◌, Bool, true, false, not, is_some, cond, List, [], ◌∷◌, ◌++◌, length, take, Option, Some, None, refl, sym, ap, subst, ◌∙◌, inl, inr, arith, append_assoc}
 use Rattle.std.specs.FinMap.{get, insert, remove, get-insert, get-remove, contains_key-keys}
 use Rattle.std.specs.Ordering.{eq_by_cmp}
 use Rattle.std.proofs.lemmas.List.Folds.{list_any-append}
@@ -25,7 +26,7 @@ use Rattle.std.proofs.lemmas.List.Folds.{list_any-append}
 -- ---- settling
 
 -- neither manifest nor stage is among the names up to the layer
-front_free : (cap : ℕ) (k : CellKey) (name : Key) → is_name name (Cell k) ≡ false → ((t : TileId) → ((name ≡ Terrain t → ⊥) × (name ≡ Note t → ⊥))) → is_name name Layer ≡ false
+pub front_free : (cap : ℕ) (k : CellKey) (name : Key) → is_name name (Cell k) ≡ false → ((t : TileId) → ((name ≡ Terrain t → ⊥) × (name ≡ Note t → ⊥))) → is_name name Layer ≡ false
     → is_among name (inner_names cap k ++ Layer ∷ []) ≡ false
 front_free cap k name no_cell no_tile no_layer =
     list_any-append (is_name name) (inner_names cap k) (Layer ∷ []) ∙ rw no_cell (rw (not_tile name no_tile (touched cap (square_of k))) (rw no_layer refl))
@@ -117,10 +118,6 @@ put_marked s files k bytes cell st =
           ∙ files_local s.params k s.cells (insert s.cells k bytes) (but_put s.cells k bytes) q free;
     }
 
-left_cell : (b : Bool) (x : Option (List ℕ)) (found : List ℕ) → cond b None x ≡ Some found → x ≡ Some found
-left_cell true x found e = absurd (cc)
-left_cell false x found e = e
-
 pub drop_marked : (s : State) (files : Files) (k : CellKey) → IsState (after (DropCell k) s) → StandsMarked files s Closed
     → StandsMarked (insert files Manifest (marked_text (Drop k) (after (DropCell k) s))) (after (DropCell k) s) (Drop k)
 drop_marked s files k cell st =
@@ -129,7 +126,7 @@ drop_marked s files k cell st =
       reads = record {
         manifest = manifest_at files text;
         fit = ap not (sym (contains_key-keys (remove s.cells k) k) ∙ ap is_some (just_dropped s.cells k));
-        cells = λ j found at. marked_at files text (Cell j) (name_other (Cell j) Manifest (λ e. cc)) ∙ st.agrees (Cell j) refl ∙ left_cell _ _ _ (sym (get-remove keys_total s.cells k j) ∙ at);
+        cells = λ j found at. marked_at files text (Cell j) (name_other (Cell j) Manifest (λ e. cc)) ∙ st.agrees (Cell j) refl ∙ some_beside_none _ _ _ (sym (get-remove keys_total s.cells k j) ∙ at);
         state = cell;
       };
       agrees = λ q free.

@@ -1,16 +1,18 @@
 -- What the crates below give, in the words that are used here.
-use Rattle.std.proofs.Common.{◌≡◌, ℕ, Bool, true, false, ◌||◌, ◌&&◌, nat_le, ◌==◌, cond, List, [], ◌∷◌, map, Option, Some, None, ◌⊎◌, inl, inr, ⊎_elim, refl, sym, ap, ◌∙◌, arith, T}
-use Rattle.std.proofs.lemmas.Bool.{leb-true}
+use Rattle.std.proofs.Common.{◌≡◌, ℕ, Bool, true, false, ◌||◌, nat_le, ◌==◌, cond, List, [], ◌∷◌, map, Option, Some, ⊎_elim, refl, sym, ap, ◌∙◌, arith, T}
+use Rattle.std.proofs.lemmas.Bool.{or_cases, or_right}
 use Rattle.std.proofs.lemmas.Bool.Decides.{nat_tests}
 use Rattle.std.specs.Cmp.{IsTotalOrder}
-use Rattle.std.specs.Ordering.{eq_by_cmp, is_eq, is_lt, ordering_reverse}
+use Rattle.std.specs.Ordering.{eq_by_cmp, is_eq, ordering_reverse}
 use Rattle.std.specs.declared.cmp.Ordering.{Ordering}
 use Rattle.std.proofs.lemmas.Cmp.{eq_by_cmp_equiv}
 use Rattle.std.proofs.lemmas.Map.Views.{tells_apart}
 use Rattle.std.specs.List.{list_any}
 use Rattle.std.specs.FinMap.{entries, entries_sorted, get, get-entries, find, is_sorted, IsAntisymmetric}
 use Rattle.std.specs.FinMap.Entries.{below_all}
-use Rattle.std.specs.declared.cmp.Ordering.TheVariants.{Less, Equal, Greater}
+use Rattle.std.specs.declared.cmp.Ordering.TheVariants.{Less, Greater}
+use Rattle.common_laws.proofs.Booleans.{left_holds, right_holds, same_from_both}
+use Rattle.common_laws.proofs.Orders.{less_from_holds}
 use Rattle.terrain_base.specs.declared.square.Square.{Square}
 use Rattle.terrain_base.specs.declared.tile.TileId.{TileId}
 use Rattle.terrain_base.specs.declared.params.Params.{Params}
@@ -81,25 +83,8 @@ note_local p t c d same = tile_files.note_local bound_is_local p c d t same
 abbrev row_of : CellKey × List ℕ → Summary
 row_of e = summary_of e.0 e.1
 
-and_left : (a b : Bool) → T (a && b) → T a
-and_left true b h = tt
-and_left false b h = absurd h
-
-and_right : (a b : Bool) → T (a && b) → T b
-and_right true b h = h
-and_right false b h = absurd h
-
-less_of : (o : Ordering) → T (is_lt o) → o ≡ Less
-less_of Less h = refl
-less_of Equal h = absurd h
-less_of Greater h = absurd h
-
 not_equal : (o : Ordering) → o ≡ Greater → is_eq o ≡ false
 not_equal o e = ap is_eq e
-
-either_of : (a b : Bool) → (a || b) ≡ true → (a ≡ true) ⊎ (b ≡ true)
-either_of true b e = inl refl
-either_of false b e = inr e
 
 -- an entry behind a key has another one
 found_at : (x k : CellKey) (bytes : List ℕ) (e : CellKey × List ℕ) (rest : Option (List ℕ)) (b : Bool) → (b ≡ true → k ≡ e.0) → key_cmp x e.0 ≡ Less → (rest ≡ Some bytes → key_cmp x k ≡ Less)
@@ -110,7 +95,7 @@ found_at x k bytes e rest false here less later found = later found
 found_above : (x k : CellKey) (bytes : List ℕ) (es : List (CellKey × List ℕ)) → T (below_all key_cmp x es) → find key_cmp k es ≡ Some bytes → key_cmp x k ≡ Less
 found_above x k bytes [] below found = absurd (cc)
 found_above x k bytes (e ∷ es) below found =
-    found_at x k bytes e (find key_cmp k es) (eq_by_cmp key_cmp k e.0) (tells_apart keys_exact k e.0) (less_of _ (and_left _ _ below)) (found_above x k bytes es (and_right _ _ below)) found
+    found_at x k bytes e (find key_cmp k es) (eq_by_cmp key_cmp k e.0) (tells_apart keys_exact k e.0) (less_from_holds _ (left_holds _ _ below)) (found_above x k bytes es (right_holds _ _ below)) found
 
 found_later : (e : CellKey × List ℕ) (es : List (CellKey × List ℕ)) (k : CellKey) (bytes : List ℕ) → T (below_all key_cmp e.0 es) → find key_cmp k es ≡ Some bytes → find key_cmp k (e ∷ es) ≡ Some bytes
 found_later e es k bytes below found =
@@ -123,8 +108,8 @@ any_entry : (p : Summary → Bool) (es : List (CellKey × List ℕ)) → T (is_s
 any_entry p [] sorted h = absurd (cc)
 any_entry p (e ∷ es) sorted h = ⊎_elim
     (λ here. (e.0, e.1, ap (λ b. cond b (Some e.1) (find key_cmp e.0 es)) ((eq_by_cmp_equiv keys_total).refl e.0), here))
-    (λ later. let one = any_entry p es (and_right _ _ sorted) later in (one.0, one.1, found_later e es one.0 one.1 (and_left _ _ sorted) one.2, one.3))
-    (either_of _ _ h)
+    (λ later. let one = any_entry p es (right_holds _ _ sorted) later in (one.0, one.1, found_later e es one.0 one.1 (left_holds _ _ sorted) one.2, one.3))
+    (or_cases _ _ h)
 
 one_entry : (p : Summary → Bool) (e : CellKey × List ℕ) (es : List (CellKey × List ℕ)) (k : CellKey) (bytes : List ℕ) (b : Bool) → (b ≡ true → k ≡ e.0) → cond b (Some e.1) (find key_cmp k es) ≡ Some bytes → p (summary_of k bytes) ≡ true
     → (find key_cmp k es ≡ Some bytes → list_any p (map row_of es) ≡ true) → (p (row_of e) || list_any p (map row_of es)) ≡ true
@@ -132,11 +117,7 @@ one_entry p e es k bytes true here found passes later =
     let same : e.1 ≡ bytes = cc in
     let row : row_of e ≡ summary_of k bytes = λ i. summary_of (sym (here refl) i) (same i) in
     rw (ap p row ∙ passes) refl
-one_entry p e es k bytes false here found passes later = or_true (p (row_of e)) _ (later found)
-  where
-    or_true : (a b : Bool) → b ≡ true → (a || b) ≡ true
-    or_true true b e = refl
-    or_true false b e = e
+one_entry p e es k bytes false here found passes later = or_right (p (row_of e)) _ (later found)
 
 entry_any : (p : Summary → Bool) (es : List (CellKey × List ℕ)) (k : CellKey) (bytes : List ℕ) → find key_cmp k es ≡ Some bytes → p (summary_of k bytes) ≡ true → list_any p (map row_of es) ≡ true
 entry_any p [] k bytes found passes = absurd (cc)
@@ -148,15 +129,10 @@ more_made cap t c d same made =
     let near = makes_touches cap t (summary_of one.0 one.1) one.3 in
     entry_any (makes_of cap t) (entries d) one.0 one.1 (sym (get-entries d one.0) ∙ sym (same one.0 near) ∙ get-entries c one.0 ∙ one.2) one.3
 
-both_same : (a b : Bool) → (a ≡ true → b ≡ true) → (b ≡ true → a ≡ true) → a ≡ b
-both_same true b f g = sym (f refl)
-both_same false true f g = g refl
-both_same false false f g = refl
-
 pub exists_local : (cap : ℕ) (t : TileId) (c d : Cells) → AgreeNear t c d → exists cap c t ≡ exists cap d t
 unfolding exists_of
 exists_local cap t c d same =
-    ap (λ b. (t.z == 0) || b) (both_same _ _ (more_made cap t c d same) (more_made cap t d c (λ k near. sym (same k near))))
+    ap (λ b. (t.z == 0) || b) (same_from_both _ _ (more_made cap t c d same) (more_made cap t d c (λ k near. sym (same k near))))
 
 -- no tile exists above the cap
 pub exists_within : (cap : ℕ) (t : TileId) (c : Cells) → nat_le t.z cap ≡ false → exists cap c t ≡ false

@@ -11,10 +11,11 @@ use Rattle.std.specs.Prelude.{◌≢◌}
 use Rattle.database.specs.Laws.{TilesAreLocal}
 use Rattle.database.proofs.Given.{AgreeNear, square_of, touches, exists, terrain_text, note_text, terrain_local, note_local, exists_local, exists_within}
 use Rattle.database.specs.State.{file_of, where_it_is, is_changed}
-use Rattle.database.proofs.Tests.{false_of, key_same}
+use Rattle.database.proofs.Tests.{key_same}
 use Rattle.std.proofs.Common.{◌≡◌, ℕ, Bool, true, false, ◌&&◌, nat_le, List, refl, ap, ◌⊎◌, inl, inr, ⊎_elim}
 use Rattle.std.specs.FinMap.{get}
 use Rattle.std.specs.Ordering.{eq_by_cmp}
+use Rattle.std.proofs.lemmas.Bool.{false_from_ne_true}
 
 -- the cells are the same but for one
 pub record AgreeBut (k : CellKey) (c d : Cells) : Type 0 where
@@ -23,7 +24,7 @@ pub record AgreeBut (k : CellKey) (c d : Cells) : Type 0 where
 -- a tile that does not touch the cell looks at cells that agree
 near_agree : (k : CellKey) (c d : Cells) (t : TileId) → AgreeBut k c d → touches t (square_of k) ≡ false → (j : CellKey) → touches t (square_of j) ≡ true → get c j ≡ get d j
 near_agree k c d t agree apart j near =
-    agree.same j (false_of _ (λ e. let here : touches t (square_of j) ≡ touches t (square_of k) = ap (λ i. touches t (square_of i)) (key_same j k e) in cc))
+    agree.same j (false_from_ne_true _ (λ e. let here : touches t (square_of j) ≡ touches t (square_of k) = ap (λ i. touches t (square_of i)) (key_same j k e) in cc))
 
 either_false : (a b : Bool) → (a && b) ≡ false → (a ≡ false) ⊎ (b ≡ false)
 either_false true b e = inr e

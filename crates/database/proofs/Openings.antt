@@ -1,13 +1,13 @@
 -- A map of files opens in one way.
-use Rattle.std.proofs.Common.{◌≡◌, ℕ, zero, suc, ◌<◌, ◌≤◌, Bool, true, false, ◌||◌, is_some, List, [], ◌∷◌, Option, Some, None, refl, sym, ap, subst, ◌∙◌, ◌⊎◌, inl, inr, ⊎_elim, arith}
-use Rattle.std.specs.Prelude.{IsSomeAnd, slice_get, ◌≢◌}
+use Rattle.std.proofs.Common.{◌≡◌, ℕ, zero, suc, ◌<◌, true, is_some, List, [], ◌∷◌, Option, Some, None, refl, sym, ap, subst, ◌∙◌, ◌⊎◌, inl, inr, arith}
+use Rattle.std.specs.Prelude.{IsSomeAnd, slice_get}
 use Rattle.std.specs.List.{list_any}
 use Rattle.std.specs.Ordering.{eq_by_cmp}
 use Rattle.std.specs.FinMap.{get, keys, contains_key-keys}
-use Rattle.std.proofs.lemmas.Bool.{cases_order}
+use Rattle.std.proofs.lemmas.Bool.{cases_order, or_right}
+use Rattle.common_laws.proofs.Options.{holds_of_some}
 use Rattle.terrain_base.specs.declared.cell_key.CellKey.{CellKey}
 use Rattle.db_manifest.specs.Manifest.{ManifestState}
-use Rattle.terrain_base.specs.declared.name.Key.{Key}
 use Rattle.terrain_base.specs.declared.name.Key.TheVariants.{Manifest}
 use Rattle.terrain_base.specs.declared.params.Params.{Params}
 use Rattle.dted_cell.specs.declared.trouble.CellTrouble.{CellTrouble}
@@ -15,9 +15,8 @@ use Rattle.dted_cell.specs.declared.trouble.CellTrouble.TheVariants.{Lost, Bad, 
 use Rattle.dted_cell.specs.Trouble.{ShowsAt, name_of}
 use Rattle.terrain_base.specs.CellKey.{key_cmp}
 use Rattle.terrain_base.specs.Step.{Files}
-use Rattle.cell_mosaic.specs.Cells.{Cells, IsSoundCell}
-use Rattle.manifest_lines.specs.Version.{version_in}
-use Rattle.db_manifest.specs.Manifest.{manifest_text, IsManifest, IsBadLine}
+use Rattle.cell_mosaic.specs.Cells.{IsSoundCell}
+use Rattle.db_manifest.specs.Manifest.{manifest_text, IsManifest}
 use Rattle.db_manifest.proofs.Texts.{version_is, differ, none_of}
 use Rattle.manifest_lines.proofs.Readers.{one_bad}
 use Rattle.manifest_lines.specs.KeyRow.{key_grammar, key_sound}
@@ -73,12 +72,9 @@ of_state r = record { manifest = r.manifest; good = is_manifest r }
 of_trouble : {files : Files} {t : CellTrouble} (f : IsFirstTrouble files t) → HasManifest files f.params f.mark f.rows
 of_trouble f = record { manifest = f.manifest; good = f.is_good }
 
-at_some : (o : Option (List ℕ)) (bytes : List ℕ) (P : List ℕ → Type 0) → o ≡ Some bytes → IsSomeAnd o P → P bytes
-at_some o bytes P e is = subst (λ x. IsSomeAnd x P) e is
-
 pub not_old : {files : Files} {p : Params} {m : ManifestState} {rows : List CellKey} (n : ℕ) → HasManifest files p m rows → OpensAs files (OldVersion n) → ⊥
 not_old {files = files} {p = p} {m = m} {rows = rows} n h old =
-    let is = at_some (get files Manifest) (manifest_text p m rows) (IsOld n) h.manifest old in
+    let is = holds_of_some (get files Manifest) (manifest_text p m rows) (IsOld n) h.manifest old in
     let found : Some n ≡ Some 3 = sym is.1 ∙ version_is p m rows in
     let same : n ≡ 3 = cc in
     let less = is.0 in
@@ -105,14 +101,10 @@ old_or_refused n line (Some bytes) old refused = refused.0 n old
 
 -- ---- first troubles
 
-later : (a b : Bool) → b ≡ true → (a || b) ≡ true
-later true b e = refl
-later false b e = e
-
-any_at : (rows : List CellKey) (n : ℕ) (k : CellKey) → slice_get rows n ≡ Some k → list_any (eq_by_cmp key_cmp k) rows ≡ true
+pub any_at : (rows : List CellKey) (n : ℕ) (k : CellKey) → slice_get rows n ≡ Some k → list_any (eq_by_cmp key_cmp k) rows ≡ true
 any_at [] n k e = absurd (cc)
 any_at (j ∷ rows) zero k e = let same : j ≡ k = cc in rw same (rw (key_self k) refl)
-any_at (j ∷ rows) (suc n) k e = later (eq_by_cmp key_cmp k j) (list_any (eq_by_cmp key_cmp k) rows) (any_at rows n k e)
+any_at (j ∷ rows) (suc n) k e = or_right (eq_by_cmp key_cmp k j) (list_any (eq_by_cmp key_cmp k) rows) (any_at rows n k e)
 
 cell_held : (files : Files) (k : CellKey) (held o : Option (List ℕ)) → is_some o ≡ true → ((bytes : List ℕ) → o ≡ Some bytes → (held ≡ Some bytes) × IsSoundCell k bytes) → IsSomeAnd held (IsSoundCell k)
 cell_held files k held None some at = absurd (cc)

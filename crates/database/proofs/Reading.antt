@@ -1,27 +1,26 @@
 -- Files whose manifest is good and whose rows' cells are held read as one state, and as no other.
-use Rattle.std.proofs.Common.{◌≡◌, ℕ, zero, suc, ◌+◌, ◌<◌, ◌≤◌, Bool, true, false, ◌&&◌, not, is_some, cond, List, [], ◌∷◌, ◌++◌, length, map, Option, Some, None, refl, sym, ap, subst, ◌∙◌, arith, T}
-use Rattle.std.specs.Prelude.{IsSomeAnd, slice_get}
+use Rattle.std.proofs.Common.{◌≡◌, ℕ, suc, ◌≤◌, Bool, true, false, is_some, cond, List, [], ◌∷◌, length, map, Option, Some, None, refl, sym, ap, subst, ◌∙◌, T}
+use Rattle.std.specs.Prelude.{IsSomeAnd, slice_get, IfSome}
 use Rattle.std.specs.List.{AllByRecursion}
 use Rattle.std.specs.List.Sorted.{IsStrictlySortedBy}
-use Rattle.std.specs.Ordering.{eq_by_cmp, is_lt}
-use Rattle.std.specs.declared.cmp.Ordering.{Ordering}
-use Rattle.std.specs.declared.cmp.Ordering.TheVariants.{Less, Equal, Greater}
-use Rattle.std.specs.FinMap.{get, keys, entries, entries_sorted, entries-from_sorted, get-from_sorted, get-entries, contains_key-keys, find, is_sorted, same_map}
+use Rattle.std.specs.Ordering.{eq_by_cmp}
+use Rattle.std.specs.declared.cmp.Ordering.TheVariants.{Less}
+use Rattle.std.specs.FinMap.{get, keys, entries, entries_sorted, entries-from_sorted, get-from_sorted, get-entries, find, is_sorted, same_map}
 use Rattle.std.specs.FinMap.Entries.{below_all}
+use Rattle.common_laws.proofs.Booleans.{both_hold, left_holds, right_holds}
+use Rattle.common_laws.proofs.Orders.{less_from_holds, holds_from_less}
 use Rattle.terrain_base.specs.declared.cell_key.CellKey.{CellKey}
 use Rattle.db_manifest.specs.Manifest.{ManifestState}
-use Rattle.manifest_lines.specs.declared.state.State.TheVariants.{Closed, Put, Drop, Rebuild}
 use Rattle.terrain_base.specs.declared.name.Key.{Key}
 use Rattle.terrain_base.specs.declared.name.Key.TheVariants.{Manifest}
 use Rattle.terrain_base.specs.declared.params.Params.{Params}
-use Rattle.terrain_base.specs.declared.summary.Summary.{Summary}
 use Rattle.terrain_base.specs.CellKey.{key_cmp}
 use Rattle.terrain_base.specs.Step.{Files}
-use Rattle.cell_mosaic.specs.Cells.{Cells, IsSoundCell}
+use Rattle.cell_mosaic.specs.Cells.{IsSoundCell}
 use Rattle.cell_mosaic.specs.Summaries.{summary_of, summaries_of}
 use Rattle.db_manifest.specs.Manifest.{manifest_text, IsManifest, fits_rows}
 use Rattle.db_manifest.proofs.Texts.{differ}
-use Rattle.database.specs.State.{State, IsState, ReadsAs, kept_under}
+use Rattle.database.specs.State.{State, ReadsAs, kept_under}
 use Rattle.database.specs.Opening.{IsKept}
 use Rattle.database.specs.Reading.{or_nothing, kept_bytes, row_entries, cells_read, summaries_read, state_read}
 use Rattle.database.proofs.Given.{keys_total, keys_exact}
@@ -29,51 +28,31 @@ use Rattle.database.proofs.Tests.{key_same}
 
 -- ---- rows that ascend, as entries and as keys
 
-less_test : (o : Ordering) → o ≡ Less → T (is_lt o)
-less_test o e = subst (λ o. T (is_lt o)) (sym e) tt
-
-less_of : (o : Ordering) → T (is_lt o) → o ≡ Less
-less_of Less h = refl
-less_of Equal h = absurd h
-less_of Greater h = absurd h
-
-and_both : (a b : Bool) → T a → T b → T (a && b)
-and_both true b h k = k
-and_both false b h k = absurd h
-
-and_left : (a b : Bool) → T (a && b) → T a
-and_left true b h = tt
-and_left false b h = absurd h
-
-and_right : (a b : Bool) → T (a && b) → T b
-and_right true b h = h
-and_right false b h = absurd h
-
 below_rows : (f : CellKey → List ℕ) (x : CellKey) (ks : List CellKey) → AllByRecursion (λ y. key_cmp x y ≡ Less) ks → T (below_all key_cmp x (map (λ k. (k, f k)) ks))
 below_rows f x [] h = tt
-below_rows f x (k ∷ ks) h = and_both _ _ (less_test (key_cmp x k) h.0) (below_rows f x ks h.1)
+below_rows f x (k ∷ ks) h = both_hold _ _ (holds_from_less (key_cmp x k) h.0) (below_rows f x ks h.1)
 
 pub sorted_entries : (f : CellKey → List ℕ) (ks : List CellKey) → IsStrictlySortedBy key_cmp ks → T (is_sorted key_cmp (map (λ k. (k, f k)) ks))
 unfolding IsStrictlySortedBy
 sorted_entries f [] h = tt
-sorted_entries f (k ∷ ks) h = and_both _ _ (below_rows f k ks h.0) (sorted_entries f ks h.1)
+sorted_entries f (k ∷ ks) h = both_hold _ _ (below_rows f k ks h.0) (sorted_entries f ks h.1)
 
 below_keys : (x : CellKey) (es : List (CellKey × List ℕ)) → T (below_all key_cmp x es) → AllByRecursion (λ y. key_cmp x y ≡ Less) (map (λ e. e.0) es)
 below_keys x [] h = tt
-below_keys x (e ∷ es) h = (less_of (key_cmp x e.0) (and_left _ _ h), below_keys x es (and_right _ _ h))
+below_keys x (e ∷ es) h = (less_from_holds (key_cmp x e.0) (left_holds _ _ h), below_keys x es (right_holds _ _ h))
 
 pub sorted_keys : (es : List (CellKey × List ℕ)) → T (is_sorted key_cmp es) → IsStrictlySortedBy key_cmp (map (λ e. e.0) es)
 unfolding IsStrictlySortedBy
 sorted_keys [] h = tt
-sorted_keys (e ∷ es) h = (below_keys e.0 es (and_left _ _ h), sorted_keys es (and_right _ _ h))
+sorted_keys (e ∷ es) h = (below_keys e.0 es (left_holds _ _ h), sorted_keys es (right_holds _ _ h))
 
 -- ---- the state that rows tell
 
-keys_back : (f : CellKey → List ℕ) (ks : List CellKey) → map (λ (e : CellKey × List ℕ). e.0) (map (λ k. (k, f k)) ks) ≡ ks
+pub keys_back : (f : CellKey → List ℕ) (ks : List CellKey) → map (λ (e : CellKey × List ℕ). e.0) (map (λ k. (k, f k)) ks) ≡ ks
 keys_back f [] = refl
 keys_back f (k ∷ ks) = ap (λ js. k ∷ js) (keys_back f ks)
 
-told_back : (f : CellKey → List ℕ) (ks : List CellKey) → map (λ (e : CellKey × List ℕ). summary_of e.0 e.1) (map (λ k. (k, f k)) ks) ≡ map (λ k. summary_of k (f k)) ks
+pub told_back : (f : CellKey → List ℕ) (ks : List CellKey) → map (λ (e : CellKey × List ℕ). summary_of e.0 e.1) (map (λ k. (k, f k)) ks) ≡ map (λ k. summary_of k (f k)) ks
 told_back f [] = refl
 told_back f (k ∷ ks) = ap (λ js. summary_of k (f k) ∷ js) (told_back f ks)
 
@@ -86,7 +65,7 @@ read_keys files mark rows asc = ap (map (λ (e : CellKey × List ℕ). e.0)) (re
 pub read_summaries : (files : Files) (mark : ManifestState) (rows : List CellKey) → IsStrictlySortedBy key_cmp rows → summaries_of (cells_read files mark rows) ≡ summaries_read files mark rows
 read_summaries files mark rows asc = ap (map (λ (e : CellKey × List ℕ). summary_of e.0 e.1)) (read_entries files mark rows asc) ∙ told_back (kept_bytes files mark) rows
 
-kept_is : (o : Option (List ℕ)) (k : CellKey) (bytes : List ℕ) → IsSomeAnd o (IsSoundCell k) → Some (or_nothing o) ≡ Some bytes → (o ≡ Some bytes) × IsSoundCell k bytes
+pub kept_is : (o : Option (List ℕ)) (k : CellKey) (bytes : List ℕ) → IsSomeAnd o (IsSoundCell k) → Some (or_nothing o) ≡ Some bytes → (o ≡ Some bytes) × IsSoundCell k bytes
 kept_is None k bytes is e = absurd is
 kept_is (Some b) k bytes is e = let same : b ≡ bytes = cc in (e, subst (λ x. IsSoundCell k x) same is)
 
@@ -171,3 +150,7 @@ one_state {files = files} {s = s} {t = t} {m = m} {n = n} a b =
 pub all_rows : (P : CellKey → Type 0) (rows : List CellKey) → ((n : ℕ) (key : CellKey) → slice_get rows n ≡ Some key → P key) → AllByRecursion P rows
 all_rows P [] each = tt
 all_rows P (k ∷ rows) each = (each 0 k refl, all_rows P rows (λ n key at. each (suc n) key at))
+
+-- what a get found, where the store tells its files
+pub found_is : (held : Option Files) (found : Option (List ℕ)) (name : Key) (files : Files) → held ≡ Some files → IfSome held (λ fs. found ≡ get fs name) → found ≡ get files name
+found_is held found name files is said = subst (λ o. IfSome o (λ fs. found ≡ get fs name)) is said

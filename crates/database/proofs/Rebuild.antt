@@ -8,7 +8,7 @@ use Rattle.manifest_lines.specs.declared.state.State.TheVariants.{Rebuild}
 use Rattle.terrain_base.specs.declared.cell_key.CellKey.{CellKey}
 use Rattle.database.proofs.Given.{exists, terrain_text, note_text}
 use Rattle.terrain_base.specs.TileOrder.{tile_cmp}
-use Rattle.database.specs.State.{State, file_of, where_it_is, is_stage, AreFiles, ReadsAs, StandsMarked, StandsFor}
+use Rattle.database.specs.State.{State, file_of, where_it_is, AreFiles, ReadsAs, StandsMarked, StandsFor}
 use Rattle.database.specs.Commands.{tile_names, last_names, is_extra}
 use Rattle.database.proofs.Tests.{is_name, name_same, name_other}
 use Rattle.database.proofs.Among.{not_tile, terrain_among, note_among}
@@ -18,6 +18,7 @@ use Rattle.std.specs.FinMap.{get, keys, contains_key-keys}
 use Rattle.std.specs.List.{list_any, filter}
 use Rattle.std.specs.Ordering.{eq_by_cmp}
 use Rattle.std.proofs.lemmas.List.Folds.{list_any-append}
+use Rattle.std.proofs.lemmas.Bool.{or_parts}
 
 abbrev pub extra_names : Files → State → List Key
 extra_names files s = filter (is_extra s) (keys files)
@@ -42,14 +43,6 @@ none_held (Some b) never = absurd (never refl)
 
 extra_gone : (s : State) (files : Files) (q : Key) → is_extra s q ≡ true → is_among q (extra_names files s) ≡ false → get files q ≡ None
 extra_gone s files q extra out = none_held (get files q) (λ held. let here : is_among q (extra_names files s) ≡ true = among_filter (is_extra s) q (keys files) extra (held_among files q held) in cc)
-
-or_left : (a b : Bool) → (a || b) ≡ false → a ≡ false
-or_left true b e = e
-or_left false b e = refl
-
-or_right : (a b : Bool) → (a || b) ≡ false → b ≡ false
-or_right true b e = absurd (cc)
-or_right false b e = e
 
 at_cell : (s : State) (files : Files) (k : CellKey) (o : Option (List ℕ)) → get s.cells k ≡ o → ReadsAs files s Rebuild → is_among (Cell k) (extra_names files s) ≡ false → get files (Cell k) ≡ o
 at_cell s files k None at r out = extra_gone s files (Cell k) (ap (λ o. not (is_some o) && true) at) out
@@ -78,8 +71,8 @@ pub rebuild_covers : (s : State) (files : Files) (ts : List TileId) → ReadsAs 
 rebuild_covers s files ts r all = record {
   rest = λ q out.
       let parts = sym (list_any-append (is_name q) (extra_names files s) (tile_names ts ++ last_names)) ∙ out in
-      let more = sym (list_any-append (is_name q) (tile_names ts) last_names) ∙ or_right _ _ parts in
-      rest_of s files ts r all q (or_left _ _ parts) (or_left _ _ more) (or_right _ _ more);
+      let more = sym (list_any-append (is_name q) (tile_names ts) last_names) ∙ (or_parts _ _ parts).1 in
+      rest_of s files ts r all q (or_parts _ _ parts).0 (or_parts _ _ more).0 (or_parts _ _ more).1;
 }
 
 pub left_by : (p : Key → Bool) (q x : Key) (xs : List Key) (b c : Bool) → is_name q x ≡ b → p x ≡ c → p q ≡ false → list_any (is_name q) (filter p xs) ≡ false → list_any (is_name q) (cond c (x ∷ filter p xs) (filter p xs)) ≡ false

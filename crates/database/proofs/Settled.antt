@@ -1,30 +1,29 @@
 -- What settling leaves, of files that stand for a state and of files that only read as one.
-use Rattle.std.proofs.Common.{◌≡◌, ℕ, zero, suc, ◌+◌, ◌≤◌, Bool, true, false, ◌||◌, ◌&&◌, not, is_some, cond, List, [], ◌∷◌, ◌++◌, length, take, Option, Some, None, refl, sym, ap, subst, ◌∙◌, ◌⊎◌, inl, inr, ⊎_elim, arith, append_assoc, length-append}
+use Rattle.std.proofs.Common.{◌≡◌, ℕ, zero, suc, ◌+◌, ◌≤◌, Bool, true, false, cond, List, [], ◌∷◌, ◌++◌, length, take, Some, refl, sym, ap, subst, ◌∙◌, ◌⊎◌, inl, inr, ⊎_elim, arith, append_assoc, length-append}
 use Rattle.std.specs.FinMap.{get, keys, remove, get-remove}
 use Rattle.std.specs.List.{filter}
 use Rattle.std.specs.Ordering.{eq_by_cmp}
 use Rattle.std.proofs.lemmas.List.{take-map, take-append-le, length-map}
 use Rattle.std.proofs.lemmas.List.Folds.{list_any-append}
+use Rattle.std.proofs.lemmas.Bool.{or_left, or_right}
 use Rattle.std.proofs.Math.Seq.{take-append-add}
 use Rattle.terrain_base.specs.declared.cell_key.CellKey.{CellKey}
 use Rattle.db_manifest.specs.Manifest.{ManifestState}
 use Rattle.manifest_lines.specs.declared.state.State.TheVariants.{Closed, Put, Drop, Rebuild}
 use Rattle.terrain_base.specs.declared.name.Key.{Key}
 use Rattle.terrain_base.specs.declared.name.Key.TheVariants.{Manifest, Layer, Stage, Cell, OldCell, Terrain, Note}
-use Rattle.terrain_base.specs.declared.tile.TileId.{TileId}
 use Rattle.terrain_base.specs.CellKey.{key_cmp}
-use Rattle.tile_deps.specs.Tiles.{touched}
-use Rattle.terrain_base.specs.Step.{Files, Step, Erase}
+use Rattle.terrain_base.specs.Step.{Files}
 use Rattle.terrain_base.specs.Overwrite.{step_to, steps_to, all_changed, is_among}
-use Rattle.database.specs.State.{State, file_of, AreFiles, ReadsAs, StandsMarked, StandsFor, kept_under, is_stage, is_changed, settled}
-use Rattle.database.specs.Commands.{tile_names, last_names, inner_names, changed_names, existing, is_extra, rebuild_names, closing, rebuilding, settling}
+use Rattle.database.specs.State.{State, file_of, AreFiles, ReadsAs, StandsMarked, StandsFor, is_stage, is_changed, settled}
+use Rattle.database.specs.Commands.{tile_names, inner_names, changed_names, existing, is_extra, rebuild_names, closing, settling}
 use Rattle.database.specs.State.{ReadsFor}
 use Rattle.database.proofs.Given.{by_text_total, existing_all}
-use Rattle.database.proofs.Tests.{is_name, name_self, name_same, name_other, key_same, key_self}
+use Rattle.database.proofs.Tests.{is_name, name_self, name_same, name_other, key_same}
 use Rattle.database.proofs.Among.{among_changed, not_tile}
 use Rattle.terrain_base.proofs.Stops.{missed}
-use Rattle.database.proofs.Standing.{over, over_at, over_agrees, over_missed, over_hit, by_test, closed_stands, reads_kept}
-use Rattle.database.proofs.Command.{settling_stands, settling_ends}
+use Rattle.database.proofs.Standing.{over, over_at, over_agrees, over_hit, by_test, closed_stands, reads_kept, three_ways}
+use Rattle.database.proofs.Command.{settling_stands, settling_ends, front_free}
 use Rattle.database.proofs.Rebuild.{rebuild_stands, rebuild_ends, left_by}
 
 -- ---- the stage alone
@@ -83,14 +82,6 @@ settling_leaves Rebuild s files r q = (rebuild_ends s files (existing s) (existi
 abbrev pub Right : State → Files → List Key → Type 0
 Right s files names = (k : CellKey) (bytes : List ℕ) → get s.cells k ≡ Some bytes → (get files (Cell k) ≡ Some bytes) ⊎ (is_among (Cell k) names ≡ true)
 
-or_left : (a b : Bool) → a ≡ true → (a || b) ≡ true
-or_left true b e = refl
-or_left false b e = absurd (cc)
-
-or_right : (a b : Bool) → b ≡ true → (a || b) ≡ true
-or_right true b e = refl
-or_right false b e = e
-
 -- with the closed manifest
 pub closed_reads : (s : State) (files : Files) (m : ManifestState) (front more : List Key) → is_among Manifest more ≡ true → ReadsAs files s m → Right s files front → ReadsAs (over s (front ++ more) files) s Closed
 closed_reads s files m front more here r right = record {
@@ -102,9 +93,6 @@ closed_reads s files m front more here r right = record {
       (λ among. over_hit s (front ++ more) files (Cell k) (list_any-append (is_name (Cell k)) front more ∙ or_left _ _ among) ∙ at)
       (right k bytes at);
 }
-
-three_ways : (n k : ℕ) → n ≤ k + 2 → (n ≤ k) ⊎ ((n ≡ k + 1) ⊎ (n ≡ k + 2))
-three_ways n k le = grind arith
 
 by_front : (s : State) (files : Files) (m : ManifestState) (front : List Key) → is_among Manifest front ≡ false → is_among Stage front ≡ false
     → ReadsAs files s m → Right s files front → (n : ℕ) → (n ≤ length front) ⊎ ((n ≡ length front + 1) ⊎ (n ≡ length front + 2))
@@ -129,11 +117,6 @@ closing_reads s files m front names same no_manifest no_stage r right n le =
     (subst (λ ns. ReadsFor (over s (take n ns) files) s) same (by_front s files m front no_manifest no_stage r right n (three_ways n (length front) fits)))
 
 -- ---- for each mark
-
-pub front_free : (cap : ℕ) (k : CellKey) (name : Key) → is_name name (Cell k) ≡ false → ((t : TileId) → ((name ≡ Terrain t → ⊥) × (name ≡ Note t → ⊥))) → is_name name Layer ≡ false
-    → is_among name (inner_names cap k ++ Layer ∷ []) ≡ false
-front_free cap k name no_cell no_tile no_layer =
-    list_any-append (is_name name) (inner_names cap k) (Layer ∷ []) ∙ rw no_cell (rw (not_tile name no_tile (touched cap k.square)) (rw no_layer refl))
 
 cell_among : (cap : ℕ) (k j : CellKey) → j ≡ k → is_among (Cell j) (inner_names cap k ++ Layer ∷ []) ≡ true
 cell_among cap k j e = subst (λ i. is_among (Cell i) (inner_names cap k ++ Layer ∷ []) ≡ true) (sym e)

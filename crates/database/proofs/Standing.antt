@@ -98,7 +98,7 @@ almost_all s files names covers q e = by_test (is_among q names) _
     (λ in_names. over_hit s names files q in_names)
     (λ out. over_missed s names files q out ∙ covers.rest q (list_any-append (is_name q) names (Stage ∷ []) ∙ rw (stage_apart q e) (or_false _ out)))
 
-three_ways : (n k : ℕ) → n ≤ k + 2 → (n ≤ k) ⊎ ((n ≡ k + 1) ⊎ (n ≡ k + 2))
+pub three_ways : (n k : ℕ) → n ≤ k + 2 → (n ≤ k) ⊎ ((n ≡ k + 1) ⊎ (n ≡ k + 2))
 three_ways n k le = grind arith
 
 by_front : (s : State) (files : Files) (m : ManifestState) (front : List Key) → is_among Manifest front ≡ false → is_among Stage front ≡ false

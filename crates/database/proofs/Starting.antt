@@ -1,9 +1,8 @@
 -- A whole rebuilding, its mark first, on files that hold the state's cells.
-use Rattle.std.proofs.Common.{◌≡◌, ℕ, zero, suc, ◌≤◌, false, List, [], ◌∷◌, length, take, Option, Some, None, refl, ap, ◌∙◌, ◌⊎◌, inl, inr, arith}
-use Rattle.std.specs.FinMap.{get, keys, insert, get-insert, empty, get-empty, entries-from_sorted, len-empty, len-entries}
+use Rattle.std.proofs.Common.{◌≡◌, ℕ, zero, suc, ◌≤◌, List, length, take, Some, refl, ◌∙◌, ◌⊎◌, inl, inr, arith}
+use Rattle.std.specs.FinMap.{get, insert, get-insert}
 use Rattle.manifest_lines.specs.declared.state.State.TheVariants.{Closed, Rebuild}
 use Rattle.terrain_base.specs.declared.cell_key.CellKey.{CellKey}
-use Rattle.terrain_base.specs.declared.name.Key.{Key}
 use Rattle.terrain_base.specs.declared.name.Key.TheVariants.{Manifest, Cell}
 use Rattle.terrain_base.specs.Step.{Files}
 use Rattle.terrain_base.specs.Overwrite.{all_changed}

@@ -7,19 +7,11 @@ use Rattle.terrain_base.specs.TileOrder.{tile_cmp}
 use Rattle.terrain_base.specs.declared.tile.TileId.{TileId}
 use Rattle.terrain_base.specs.declared.cell_key.CellKey.{CellKey}
 use Rattle.terrain_base.specs.CellKey.{key_cmp}
-use Rattle.std.proofs.Common.{◌≡◌, ℕ, Bool, true, false, cond, List, Option, refl, sym, ap}
+use Rattle.std.proofs.Common.{◌≡◌, ℕ, Bool, true, false, cond, List, Option, refl}
 use Rattle.std.proofs.lemmas.Map.Views.{tells_apart}
 use Rattle.std.proofs.lemmas.Cmp.{eq_by_cmp_equiv}
+use Rattle.std.proofs.lemmas.Bool.{false_from_ne_true}
 use Rattle.std.specs.Ordering.{eq_by_cmp}
-
-pub same_test : (a b : Bool) → (a ≡ true → b ≡ true) → (b ≡ true → a ≡ true) → a ≡ b
-same_test true b f g = sym (f refl)
-same_test false true f g = g refl
-same_test false false f g = refl
-
-pub false_of : (b : Bool) → (b ≡ true → ⊥) → b ≡ false
-false_of true never = absurd (never refl)
-false_of false never = refl
 
 abbrev pub is_name : Key → Key → Bool
 is_name a b = eq_by_cmp by_text a b
@@ -34,7 +26,7 @@ pub name_same : (a b : Key) → is_name a b ≡ true → a ≡ b
 name_same a b e = tells_apart by_text_exact a b e
 
 pub name_other : (a b : Key) → (a ≡ b → ⊥) → is_name a b ≡ false
-name_other a b never = false_of _ (λ e. never (name_same a b e))
+name_other a b never = false_from_ne_true _ (λ e. never (name_same a b e))
 
 pub key_same : (a b : CellKey) → eq_by_cmp key_cmp a b ≡ true → a ≡ b
 key_same a b e = tells_apart keys_exact a b e
@@ -45,7 +37,7 @@ pick true x y e = refl
 pick false x y e = e
 
 pub key_other : (a b : CellKey) → (a ≡ b → ⊥) → eq_by_cmp key_cmp a b ≡ false
-key_other a b never = false_of _ (λ e. never (key_same a b e))
+key_other a b never = false_from_ne_true _ (λ e. never (key_same a b e))
 
 pub tile_same : (t u : TileId) → eq_by_cmp tile_cmp t u ≡ true → t ≡ u
 tile_same t u e = tells_apart tiles_exact t u e

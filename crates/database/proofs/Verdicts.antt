@@ -8,22 +8,24 @@ use Rattle.std.specs.declared.cmp.Ordering.{Ordering}
 use Rattle.std.specs.declared.cmp.Ordering.TheVariants.{Less, Equal, Greater}
 use Rattle.std.specs.FinMap.{get, keys, contains_key-keys}
 use Rattle.std.proofs.lemmas.List.Folds.{list_any-append}
+use Rattle.std.proofs.lemmas.Bool.{or_right, or_left, or_parts, both_ways}
+use Rattle.common_laws.proofs.Orders.{less_from_test}
 use Rattle.terrain_base.specs.declared.name.Key.{Key}
 use Rattle.terrain_base.specs.declared.name.Key.TheVariants.{Manifest, Layer, Stage, Cell, OldCell, Terrain, Note}
 use Rattle.terrain_base.specs.declared.cell_key.CellKey.{CellKey}
 use Rattle.database.specs.declared.verdict.Difference.{Difference}
-use Rattle.database.specs.declared.verdict.Difference.TheVariants.{Differs, Missing, Extra}
+use Rattle.database.specs.declared.verdict.Difference.TheVariants.{Differs, Extra}
 use Rattle.database.specs.declared.verdict.Finding.{Finding}
 use Rattle.terrain_base.specs.CellKey.{key_cmp}
 use Rattle.terrain_base.specs.Name.{by_text}
 use Rattle.terrain_base.specs.Step.{Files}
 use Rattle.terrain_base.specs.Overwrite.{is_among}
 use Rattle.database.specs.Commands.{tile_names, existing}
-use Rattle.database.specs.State.{State, file_of, where_it_is, AreFiles, tile_exists}
+use Rattle.database.specs.State.{State, file_of, where_it_is, tile_exists}
 use Rattle.tile_rule.specs.Tile.{terrain_of, note_of}
 use Rattle.database.specs.Verdict.{difference_of, difference_at, IsVerdict, IsLeast, wanted_names, unwanted_names, lesser}
 use Rattle.database.proofs.Given.{by_text_total, existing_all}
-use Rattle.database.proofs.Tests.{is_name, name_self, name_same, key_self}
+use Rattle.database.proofs.Tests.{is_name, name_self, name_same}
 use Rattle.database.proofs.Among.{terrain_among, note_among, cell_test}
 use Rattle.database.proofs.Standing.{by_test}
 
@@ -36,11 +38,6 @@ either false false other name same e = absurd (cc)
 
 among_last : (other name : Key) (names : List Key) → is_among other (names ++ name ∷ []) ≡ true → (is_among other names ≡ true) ⊎ (other ≡ name)
 among_last other name names e = either (is_among other names) (is_name other name) other name (name_same other name) (sym (list_any-append (is_name other) names (name ∷ [])) ∙ e)
-
-less_is : (o : Ordering) → is_lt o ≡ true → o ≡ Less
-less_is Less e = refl
-less_is Equal e = absurd (cc)
-less_is Greater e = absurd (cc)
 
 not_less : (o : Ordering) → is_lt o ≡ false → o ≡ Less → ⊥
 not_less Less e is = absurd (cc)
@@ -67,7 +64,7 @@ least_more at names (Some found) name None before least e test =
 least_more at names None name (Some kind) before least e test =
     (e, λ other among less. ⊎_elim (λ old. least other old) (λ same. absurd (not_self name (subst (λ o. by_text o name ≡ Less) same less))) (among_last other name names among))
 least_more at names (Some found) name (Some kind) true least e test =
-    let under = less_is (by_text name found.name) (sym (test found refl)) in
+    let under = less_from_test (by_text name found.name) (sym (test found refl)) in
     (e, λ other among less. ⊎_elim (λ old. least.1 other old (by_text_total.trans other name found.name less under)) (λ same. absurd (not_self name (subst (λ o. by_text o name ≡ Less) same less))) (among_last other name names among))
 least_more at names (Some found) name (Some kind) false least e test =
     (least.0, λ other among less. ⊎_elim (λ old. least.1 other old less) (λ same. absurd (not_less (by_text name found.name) (sym (test found refl)) (subst (λ o. by_text o found.name ≡ Less) same less))) (among_last other name names among))
@@ -104,14 +101,9 @@ pub verdict_of : (s : State) (files : Files) (names : List Key) (best : Option F
 verdict_of s files names None all least = record { each = λ name. same_of (get files name) (file_of s name) (by_test (is_among name names) _ (λ e. least name e) (λ e. all.rest name e)) }
 verdict_of s files names (Some found) all least = (least.0, λ other less. by_test (is_among other names) _ (λ e. least.1 other e less) (λ e. all.rest other e))
 
--- the names that are held and not wanted, and those that are wanted, are all
-or_both : (a b : Bool) → (a || b) ≡ false → (a ≡ false) × (b ≡ false)
-or_both true b e = absurd (cc)
-or_both false b e = (refl, e)
-
-not_in_map : (k : CellKey) (ks : List CellKey) → is_among (Cell k) (map Cell ks) ≡ list_any (eq_by_cmp key_cmp k) ks
-not_in_map k [] = refl
-not_in_map k (j ∷ ks) = rw (cell_test k j) (ap (λ b. eq_by_cmp key_cmp k j || b) (not_in_map k ks))
+pub cell_among_map : (k : CellKey) (ks : List CellKey) → is_among (Cell k) (map Cell ks) ≡ list_any (eq_by_cmp key_cmp k) ks
+cell_among_map k [] = refl
+cell_among_map k (j ∷ ks) = rw (cell_test k j) (ap (λ b. eq_by_cmp key_cmp k j || b) (cell_among_map k ks))
 
 neither : (held wanted : Option (List ℕ)) → (is_some wanted ≡ true → ⊥) → (is_some wanted ≡ false → is_some held ≡ true → ⊥) → difference_of held wanted ≡ None
 neither None None w h = refl
@@ -135,16 +127,8 @@ there_some : (b : Bool) (text : List ℕ) → is_some (where_it_is b text) ≡ t
 there_some true text e = refl
 there_some false text e = absurd (cc)
 
-or_true : (a b : Bool) → b ≡ true → (a || b) ≡ true
-or_true true b e = refl
-or_true false b e = e
-
 any_of : (names more : List Key) (q : Key) → is_among q more ≡ true → is_among q (names ++ more) ≡ true
-any_of names more q e = list_any-append (is_name q) names more ∙ or_true (is_among q names) (is_among q more) e
-
-or_first : (a b : Bool) → a ≡ true → (a || b) ≡ true
-or_first true b e = refl
-or_first false b e = absurd (cc)
+any_of names more q e = list_any-append (is_name q) names more ∙ or_right (is_among q names) (is_among q more) e
 
 -- what is wanted is in the list
 wanted_among : (s : State) (q : Key) → is_some (file_of s q) ≡ true → is_among q (wanted_names s) ≡ true
@@ -154,7 +138,7 @@ wanted_among s Stage e = absurd (cc)
 wanted_among s (OldCell q) e = absurd (cc)
 wanted_among s (Cell k) e =
     any_of (Manifest ∷ Layer ∷ []) (map Cell (keys s.cells) ++ tile_names (existing s)) (Cell k)
-    (list_any-append (is_name (Cell k)) (map Cell (keys s.cells)) (tile_names (existing s)) ∙ or_first _ _ (not_in_map k (keys s.cells) ∙ sym (contains_key-keys s.cells k) ∙ e))
+    (list_any-append (is_name (Cell k)) (map Cell (keys s.cells)) (tile_names (existing s)) ∙ or_left _ _ (cell_among_map k (keys s.cells) ∙ sym (contains_key-keys s.cells k) ∙ e))
 wanted_among s (Terrain t) e =
     any_of (Manifest ∷ Layer ∷ []) (map Cell (keys s.cells) ++ tile_names (existing s)) (Terrain t)
     (any_of (map Cell (keys s.cells)) (tile_names (existing s)) (Terrain t) (terrain_among t (existing s) ∙ existing_all s t (there_some (tile_exists s t) (terrain_of s.params s.cells t) e)))
@@ -162,17 +146,14 @@ wanted_among s (Note t) e =
     any_of (Manifest ∷ Layer ∷ []) (map Cell (keys s.cells) ++ tile_names (existing s)) (Note t)
     (any_of (map Cell (keys s.cells)) (tile_names (existing s)) (Note t) (note_among t (existing s) ∙ existing_all s t (there_some (tile_exists s t) (note_of s.params s.cells t) e)))
 
-clash : (b : Bool) → b ≡ true → b ≡ false → ⊥
-clash true e f = absurd (cc)
-clash false e f = absurd (cc)
-
+-- the names that are held and not wanted, and those that are wanted, are all
 pub all_names : (s : State) (files : Files) → AllNames s files (unwanted_names s files ++ wanted_names s)
 all_names s files = record {
   rest = λ name out.
-      let parts = or_both _ _ (sym (list_any-append (is_name name) (unwanted_names s files) (wanted_names s)) ∙ out) in
+      let parts = or_parts _ _ (sym (list_any-append (is_name name) (unwanted_names s files) (wanted_names s)) ∙ out) in
       neither (get files name) (file_of s name)
-      (λ wanted. let here = wanted_among s name wanted in absurd (clash _ here parts.1))
-      (λ unwanted held. let here = among_filter s name (keys files) (ap not unwanted) (sym (contains_key-keys files name) ∙ held) in absurd (clash _ here parts.0));
+      (λ wanted. let here = wanted_among s name wanted in absurd (both_ways _ parts.1 here))
+      (λ unwanted held. let here = among_filter s name (keys files) (ap not unwanted) (sym (contains_key-keys files name) ∙ held) in absurd (both_ways _ parts.0 here));
 }
 
 extra_of : (held wanted : Option (List ℕ)) → is_some held ≡ true → is_some wanted ≡ false → difference_of held wanted ≡ Some Extra
@@ -210,8 +191,8 @@ filter_same p names i name less is e = more_of p names i name less is ∙ ap (λ
 
 in_list : (names : List Key) (i : ℕ) (name : Key) → i < length names → name ≡ get_or names i name → is_among name names ≡ true
 in_list [] i name less is = absurd (omega arith)
-in_list (x ∷ names) zero name less is = rw is (or_first _ _ (name_self x))
-in_list (x ∷ names) (suc i) name less is = or_true _ _ (in_list names i name (omega arith) is)
+in_list (x ∷ names) zero name less is = rw is (or_left _ _ (name_self x))
+in_list (x ∷ names) (suc i) name less is = or_right _ _ (in_list names i name (omega arith) is)
 
 -- a name of those that are held is held
 pub is_held : (files : Files) (i : ℕ) (name : Key) → i < length (keys files) → name ≡ get_or (keys files) i name → is_some (get files name) ≡ true
@@ -245,10 +226,6 @@ keeps_one p name e = ap (λ b. cond b (name ∷ []) []) e
 
 pub keeps_none : (p : Key → Bool) (names : List Key) (name : Key) → p name ≡ false → names ++ filter p (name ∷ []) ≡ names
 keeps_none p names name e = ap (λ b. names ++ cond b (name ∷ []) []) e ∙ append_none names
-
-pub not_false : (b : Bool) → not b ≡ true → b ≡ false
-not_false true e = absurd (cc)
-not_false false e = refl
 
 pub held_of : (files : Files) (names : List Key) (i : ℕ) (name : Key) → names ≡ keys files → i < length names → name ≡ get_or names i name → is_some (get files name) ≡ true
 held_of files names i name same less is = contains_key-keys files name ∙ subst (λ ns. is_among name ns ≡ true) same (in_list names i name less is)

@@ -1,5 +1,5 @@
 -- The rows of a database: its cells in short.
-use Rattle.std.specs.Prelude.{ℕ, ◌≤◌, Bool, List, length, map}
+use Rattle.std.specs.Prelude.{◌≤◌, Bool, List, length, map}
 use Rattle.std.specs.List.{list_any}
 use Rattle.std.specs.List.Sorted.{IsStrictlySortedBy}
 use Rattle.std.specs.Ordering.{eq_by_cmp}

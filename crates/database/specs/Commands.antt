@@ -7,7 +7,7 @@ use Rattle.terrain_base.specs.declared.cell_key.CellKey.{CellKey}
 use Rattle.terrain_base.specs.declared.name.Key.{Key}
 use Rattle.terrain_base.specs.declared.name.Key.TheVariants.{Manifest, Layer, Stage, Cell, Terrain, Note}
 use Rattle.terrain_base.specs.Step.{Files, Step, Write, Erase}
-use Rattle.terrain_base.specs.Overwrite.{step_to, steps_to}
+use Rattle.terrain_base.specs.Overwrite.{steps_to}
 use Rattle.db_manifest.specs.Manifest.{ManifestState}
 use Rattle.manifest_lines.specs.declared.state.State.TheVariants.{Closed, Put, Drop, Rebuild}
 use Rattle.db_manifest.specs.Manifest.{manifest_text}
@@ -16,7 +16,7 @@ use Rattle.tile_deps.specs.Tiles as tiles
 use Rattle.cell_mosaic.specs.Summaries.{summaries_of}
 use Rattle.database.specs.declared.answer.EngineAnswer.{EngineAnswer}
 use Rattle.database.specs.declared.answer.EngineAnswer.TheVariants.{CellPresent, CellAbsent, DatabaseFull}
-use Rattle.database.specs.State.{State, StandsFor, file_of, is_stage, tile_exists}
+use Rattle.database.specs.State.{State, StandsFor, file_of, is_stage}
 
 -- ---- what may be asked, and what comes of it
 
