@@ -5,6 +5,9 @@ use Rattle.std.specs.List.{AllByRecursion, list_any}
 use Rattle.std.proofs.lemmas.Int.{ints}
 use Rattle.std.proofs.lemmas.Bool.Decides.{nat_tests}
 use Rattle.std.proofs.lemmas.List.FromFn.{get_or-map-range_with_len}
+use Rattle.std.proofs.lemmas.Bool.{or_left, or_right, or_cases, leb-true, leb-false}
+use Rattle.common_laws.proofs.Orders.{equal_itself}
+use Rattle.common_laws.proofs.Sizes.{near_of_size}
 use Rattle.polynomial.proofs.Expressions.{var, num, add, sub, mul}
 use Rattle.polynomial.proofs.NormalForm.{by_ring}
 use Rattle.mesh_plane.specs.Triangles.{Triple}
@@ -14,6 +17,7 @@ use Rattle.mesh_plane.proofs.Heights.{Shown}
 use Rattle.mesh_plane.proofs.Edges.{On, HasEdge, Shows, chain, edge_shown, meets_a, meets_b, meets_c}
 use Rattle.mesh_plane.proofs.StripHeights.{shows_outer}
 use Rattle.mesh_plane.proofs.StripFrames.{runs_tile}
+use Rattle.mesh_plane.proofs.SurfaceLaws.{IsNear}
 use Rattle.edge_decimate.specs.Straight.{height_at, length_of, gap_of, are_near}
 use Rattle.edge_decimate.specs.KeptPoints.{kept_between, kept_points}
 use Rattle.edge_decimate.proofs.Neighbours.{AllNear, kept_near, all_test}
@@ -28,13 +32,12 @@ use Rattle.tile_mesh.specs.Mesh.{edge_heights, kept_on}
 use Rattle.tile_mesh.specs.Numbers.{point_eq, corners}
 use Rattle.tile_mesh.specs.Rule.{strip_triangles, border_split, leaf_ends, inner_points, border_triangles}
 use Rattle.tile_mesh.specs.Sides.{outer_at, inner_at, step_at}
-use Rattle.tile_mesh.proofs.EdgePoints.{Has, Found, or_cases, or_first, or_second, number_itself, placed_outers, kept_in_border}
+use Rattle.tile_mesh.proofs.EdgePoints.{Has, Found, placed_outers, kept_in_border}
 use Rattle.tile_mesh.proofs.FirstUses.{points_equal}
 use Rattle.tile_mesh.proofs.Framing.{border_is}
 use Rattle.tile_mesh.proofs.KeptLists.{kept_to_66}
 use Rattle.tile_mesh.proofs.Merges.{merge_outers}
-use Rattle.tile_mesh.proofs.MergeOrder.{le_is, gt_is}
-use Rattle.tile_mesh.proofs.Nearness.{IsNear, IsShownNear, near_of_size, near_itself}
+use Rattle.tile_mesh.proofs.Nearness.{IsShownNear, near_itself}
 use Rattle.tile_mesh.proofs.Placing.{height, at, line, line_up, outer_line, inner_line, outer_across, inner_across}
 use Rattle.tile_mesh.proofs.StripRuns.{IsStrip}
 
@@ -189,7 +192,7 @@ module _ (grid : List ℤ) (tol : ℕ) (side : Side) where
   found_or_near : (q a : ℕ) (xs : List ℕ) (ts : List (Triple GridPoint)) → Rises a xs 66 → NearOn (edge_heights grid side) tol a xs → a ≤ q → q ≤ 66
       → Shows (at grid (pos 1)) (height grid) (chain (outer_at side a) (map (outer_at side) xs)) ts
       → Has (a ∷ xs) q ⊎ IsShownNear (at grid (pos 1)) (height grid) (at grid (pos 1) (outer_at side q)) (pos tol) (height grid (outer_at side q)) ts
-  found_or_near q a [] ts r n l h s = inl (or_first (nat_eq q a) _ (ap (nat_eq q) (omega (arith, r, l, h)) ∙ number_itself q))
+  found_or_near q a [] ts r n l h s = inl (or_left (nat_eq q a) _ (ap (nat_eq q) (omega (arith, r, l, h)) ∙ equal_itself q))
   found_or_near q a (x ∷ xs) ts r n l h s =
       go (nat_eq q a) refl (nat_le x q) refl (λ k. found_or_near q x xs ts r.1 n.1 k h s.1)
     where
@@ -200,15 +203,15 @@ module _ (grid : List ℤ) (tol : ℕ) (side : Side) where
       go : (e : Bool) → nat_eq q a ≡ e → (b : Bool) → nat_le x q ≡ b
           → (x ≤ q → Has (x ∷ xs) q ⊎ IsShownNear (at grid (pos 1)) (height grid) (at grid (pos 1) (outer_at side q)) (pos tol) (height grid (outer_at side q)) ts)
           → Has (a ∷ x ∷ xs) q ⊎ IsShownNear (at grid (pos 1)) (height grid) (at grid (pos 1) (outer_at side q)) (pos tol) (height grid (outer_at side q)) ts
-      go true e b f next = inl (or_first (nat_eq q a) _ e)
-      go false e true f next = pass (next (le_is x q f))
+      go true e b f next = inl (or_left (nat_eq q a) _ e)
+      go false e true f next = pass (next (leb-true x q f))
         where
           pass : Has (x ∷ xs) q ⊎ IsShownNear (at grid (pos 1)) (height grid) (at grid (pos 1) (outer_at side q)) (pos tol) (height grid (outer_at side q)) ts
               → Has (a ∷ x ∷ xs) q ⊎ IsShownNear (at grid (pos 1)) (height grid) (at grid (pos 1) (outer_at side q)) (pos tol) (height grid (outer_at side q)) ts
-          pass (inl k) = inl (or_second (nat_eq q a) _ k)
+          pass (inl k) = inl (or_right (nat_eq q a) _ k)
           pass (inr k) = inr k
       go false e false f next =
-          inr (edge_near a q x (apart_numbers q a e l) (gt_is x q f) (rises_le x 66 xs r.1) ts s.0 n.0)
+          inr (edge_near a q x (apart_numbers q a e l) (leb-false x q f) (rises_le x 66 xs r.1) ts s.0 n.0)
 
   walk : (q : ℕ) (xs ends : List ℕ) → RisesTo66 xs → NearFrom0 (edge_heights grid side) tol xs → q ≤ 66
       → AllByRecursion (IsCcw (at grid (pos 1))) (strip_triangles side xs (1 ∷ ends))

@@ -13,7 +13,7 @@ use Rattle.tile_mesh.specs.Plane.{vertex, triangle_of, triangles_in}
 use Rattle.tile_mesh.proofs.Placing.{place, height}
 use Rattle.tile_mesh.proofs.Steps.{keys_after, found_key, found_on}
 
-same_numbers : (a b c d : ℕ) → (nat_eq a c && nat_eq b d) ≡ true → (a ≡ c) × (b ≡ d)
+pub same_numbers : (a b c d : ℕ) → (nat_eq a c && nat_eq b d) ≡ true → (a ≡ c) × (b ≡ d)
 same_numbers a b c d e = (grind (arith, nat_tests), grind (arith, nat_tests))
 
 same_vertex : (grid : List ℤ) (p q : GridPoint) → point_eq p q ≡ true → vertex_at grid q ≡ vertex_at grid p

@@ -3,7 +3,8 @@ use Rattle.std.proofs.Common.{◌≡◌, ℕ, ◌<◌, ◌≤◌, arith, Bool, t
 use Rattle.std.specs.Prelude.{ℤ, pos, ◌≤ℤ◌, ◌⊎◌}
 use Rattle.std.specs.List.{list_any, AllByRecursion}
 use Rattle.std.proofs.lemmas.Int.{ints}
-use Rattle.std.proofs.lemmas.Bool.Decides.{nat_tests}
+use Rattle.std.proofs.lemmas.Bool.{eqb-true, or_left, or_right, or_cases, leb-true, leb-false}
+use Rattle.common_laws.proofs.Orders.{equal_itself}
 use Rattle.mesh_plane.specs.Plane.{Point}
 use Rattle.mesh_plane.specs.Triangles.{Triple, Step, Outer, Inner, cornered, strip}
 use Rattle.mesh_plane.specs.Fan.{InRect}
@@ -20,31 +21,13 @@ use Rattle.tile_mesh.specs.Numbers.{IsOnGrid, point_eq, corners}
 use Rattle.tile_mesh.specs.Rule.{strip_triangles, border_split, leaf_ends, inner_points, leaf_triangles, border_triangles, triangles_of}
 use Rattle.tile_mesh.specs.Sides.{outer_at, inner_at, step_at}
 use Rattle.tile_mesh.proofs.BorderLines.{ends_rise}
-use Rattle.tile_mesh.proofs.FirstUses.{points_equal, point_itself}
+use Rattle.tile_mesh.proofs.FirstUses.{points_equal}
 use Rattle.tile_mesh.proofs.Framing.{inner_box, border_is, leaves_tiled}
 use Rattle.tile_mesh.proofs.KeptLists.{within}
-use Rattle.tile_mesh.proofs.MergeOrder.{merge_each, le_is, gt_is}
+use Rattle.tile_mesh.proofs.MergeOrder.{merge_each}
 use Rattle.tile_mesh.proofs.Merges.{merge_outers}
 use Rattle.tile_mesh.proofs.Placing.{height, at, line, line_up}
-
--- ---- tests of numbers
-pub equal_numbers : (a b : ℕ) → nat_eq a b ≡ true → a ≡ b
-equal_numbers a b e = grind (arith, nat_tests)
-
-pub number_itself : (n : ℕ) → nat_eq n n ≡ true
-number_itself n = grind (arith, nat_tests)
-
-pub or_first : (a b : Bool) → a ≡ true → (a || b) ≡ true
-or_first true b e = refl
-or_first false b e = absurd (let z = e in cc)
-
-pub or_second : (a b : Bool) → b ≡ true → (a || b) ≡ true
-or_second true b e = refl
-or_second false b e = e
-
-pub or_cases : (a b : Bool) → (a || b) ≡ true → (a ≡ true) ⊎ (b ≡ true)
-or_cases true b e = inl refl
-or_cases false b e = inr e
+use Rattle.tile_mesh.proofs.Steps.{point_itself}
 
 -- ---- what holds of all corners of triangles
 abbrev Each : (GridPoint → Type 0) → List (Triple GridPoint) → Type 0
@@ -151,9 +134,9 @@ Has xs i = list_any (nat_eq i) xs ≡ true
 
 has_last : (a b : ℕ) (xs : List ℕ) → Rises a xs b → a < b → Has xs b
 has_last a b [] h l = absurd (omega (arith, h, l))
-has_last a b (x ∷ []) h l = or_first (nat_eq b x) false (ap (nat_eq b) h.1 ∙ number_itself b)
+has_last a b (x ∷ []) h l = or_left (nat_eq b x) false (ap (nat_eq b) h.1 ∙ equal_itself b)
 has_last a b (x ∷ y ∷ ys) h l =
-    or_second (nat_eq b x) _ (has_last x b (y ∷ ys) h.1 (omega (arith, h.1.0, rises_le y b ys h.1.1)))
+    or_right (nat_eq b x) _ (has_last x b (y ∷ ys) h.1 (omega (arith, h.1.0, rises_le y b ys h.1.1)))
   where
     rises_le : (a b : ℕ) (xs : List ℕ) → Rises a xs b → a ≤ b
     rises_le a b [] h = omega (arith, h)
@@ -162,16 +145,16 @@ has_last a b (x ∷ y ∷ ys) h l =
 has_ends : (xs : List ℕ) → RisesTo66 xs → Has xs 0 × Has xs 66
 has_ends [] h = elim h [ ]
 has_ends (x ∷ xs) h = (
-  or_first (nat_eq 0 x) _ (ap (nat_eq 0) h.0 ∙ number_itself 0),
-  or_second (nat_eq 66 x) _ (has_last 0 66 xs h.1 (omega arith)),
+  or_left (nat_eq 0 x) _ (ap (nat_eq 0) h.0 ∙ equal_itself 0),
+  or_right (nat_eq 66 x) _ (has_last 0 66 xs h.1 (omega arith)),
 )
 
 has_each : (P : ℕ → Type 0) (all xs : List ℕ) → ((i : ℕ) → Has all i → P i) → ((i : ℕ) → Has xs i → Has all i)
     → AllByRecursion P xs
 has_each P all [] f g = tt
 has_each P all (x ∷ xs) f g = (
-  f x (g x (or_first (nat_eq x x) _ (number_itself x))),
-  has_each P all xs f (λ i h. g i (or_second (nat_eq i x) _ h)),
+  f x (g x (or_left (nat_eq x x) _ (equal_itself x))),
+  has_each P all xs f (λ i h. g i (or_right (nat_eq i x) _ h)),
 )
 
 each_has : (P : ℕ → Type 0) (xs : List ℕ) (i : ℕ) → AllByRecursion P xs → Has xs i → P i
@@ -179,7 +162,7 @@ each_has P [] i h e = absurd (let z = e in cc)
 each_has P (x ∷ xs) i h e = go (or_cases (nat_eq i x) _ e) (each_has P xs i h.1)
   where
     go : (nat_eq i x ≡ true) ⊎ Has xs i → (Has xs i → P i) → P i
-    go (inl e) f = subst P (sym (equal_numbers i x e)) h.0
+    go (inl e) f = subst P (sym (eqb-true i x e)) h.0
     go (inr k) f = f k
 
 -- ---- the corners of a strip
@@ -189,10 +172,10 @@ of_strip : (P : GridPoint → Type 0) (side : Side) (kept ends : List ℕ)
 of_strip P side [] ends f a g = tt
 of_strip P side (x ∷ xs) ends f a g =
     each_strip P side (outer_at side x) (inner_at side 1) (map (step_at side) (merge xs ends))
-    (f x (or_first (nat_eq x x) _ (number_itself x))) a
+    (f x (or_left (nat_eq x x) _ (equal_itself x))) a
     (placed_each P side (merge xs ends)
     (merge_each (λ step. OfStep P (step_at side step)) xs ends
-    (has_each (λ i. P (outer_at side i)) (x ∷ xs) xs f (λ i h. or_second (nat_eq i x) _ h)) g))
+    (has_each (λ i. P (outer_at side i)) (x ∷ xs) xs f (λ i h. or_right (nat_eq i x) _ h)) g))
 
 -- what lies inside, or is a kept point of an edge
 abbrev IsAllowed : (Side → List ℕ) → GridPoint → Type 0
@@ -227,8 +210,8 @@ module _ (grid : List ℤ) (tol : ℕ) (kept : Side → List ℕ) (rises : (side
   not_less i j h = go (nat_le i j) refl
     where
       go : (b : Bool) → nat_le i j ≡ b → i ≤ j
-      go true e = le_is i j e
-      go false e = absurd (omega (arith, ints, h, line_up grid (pos 1) one j i (gt_is i j e)))
+      go true e = leb-true i j e
+      go false e = absurd (omega (arith, ints, h, line_up grid (pos 1) one j i (leb-false i j e)))
 
   in_square : (p : GridPoint) → InRect (inner_box grid (pos 1) one) (at grid (pos 1) p) → IsAllowed kept p
   in_square p r = inl (record {
@@ -297,16 +280,16 @@ Found p ts = list_any (point_eq p) (corners ts) ≡ true
 
 here : (p a b c : GridPoint) (cs : List GridPoint) → (p ≡ a) ⊎ (p ≡ b) ⊎ (p ≡ c)
     → list_any (point_eq p) (a ∷ b ∷ c ∷ cs) ≡ true
-here p a b c cs (inl e) = or_first (point_eq p a) _ (ap (point_eq p) (sym e) ∙ point_itself p)
+here p a b c cs (inl e) = or_left (point_eq p a) _ (ap (point_eq p) (sym e) ∙ point_itself p)
 here p a b c cs (inr (inl e)) =
-    or_second (point_eq p a) _ (or_first (point_eq p b) _ (ap (point_eq p) (sym e) ∙ point_itself p))
+    or_right (point_eq p a) _ (or_left (point_eq p b) _ (ap (point_eq p) (sym e) ∙ point_itself p))
 here p a b c cs (inr (inr e)) =
-    or_second (point_eq p a) _ (or_second (point_eq p b) _
-    (or_first (point_eq p c) _ (ap (point_eq p) (sym e) ∙ point_itself p)))
+    or_right (point_eq p a) _ (or_right (point_eq p b) _
+    (or_left (point_eq p c) _ (ap (point_eq p) (sym e) ∙ point_itself p)))
 
 there : (p a b c : GridPoint) (cs : List GridPoint) → list_any (point_eq p) cs ≡ true
     → list_any (point_eq p) (a ∷ b ∷ c ∷ cs) ≡ true
-there p a b c cs h = or_second (point_eq p a) _ (or_second (point_eq p b) _ (or_second (point_eq p c) _ h))
+there p a b c cs h = or_right (point_eq p a) _ (or_right (point_eq p b) _ (or_right (point_eq p c) _ h))
 
 here_outer : (side : Side) (o n x : GridPoint) (ts : List (Triple GridPoint)) → Found o (cornered side o n x ∷ ts)
 here_outer South o n x ts = here o o x n (corners ts) (inl refl)
@@ -348,9 +331,9 @@ has_placed side i (x ∷ xs) h = go (or_cases (nat_eq i x) _ h) (has_placed side
     go : (nat_eq i x ≡ true) ⊎ Has xs i → (Has xs i → list_any (point_eq (outer_at side i)) (map (outer_at side) xs) ≡ true)
         → (point_eq (outer_at side i) (outer_at side x) || list_any (point_eq (outer_at side i)) (map (outer_at side) xs)) ≡ true
     go (inl e) f =
-        or_first (point_eq (outer_at side i) (outer_at side x)) _
-        (ap (λ (j : ℕ). point_eq (outer_at side i) (outer_at side j)) (sym (equal_numbers i x e)) ∙ point_itself (outer_at side i))
-    go (inr h) f = or_second (point_eq (outer_at side i) (outer_at side x)) _ (f h)
+        or_left (point_eq (outer_at side i) (outer_at side x)) _
+        (ap (λ (j : ℕ). point_eq (outer_at side i) (outer_at side j)) (sym (eqb-true i x e)) ∙ point_itself (outer_at side i))
+    go (inr h) f = or_right (point_eq (outer_at side i) (outer_at side x)) _ (f h)
 
 module _ (grid : List ℤ) (tol : ℕ) (kept : Side → List ℕ) (rises : (side : Side) → RisesTo66 (kept side)) where
   begins : (side : Side) → Found (outer_at side 0) (border_triangles (is_split grid tol) kept side)
@@ -370,7 +353,7 @@ module _ (grid : List ℤ) (tol : ℕ) (kept : Side → List ℕ) (rises : (side
     where
       go : (nat_eq i x ≡ true) ⊎ Has xs i
           → (i ≡ 0) ⊎ Found (outer_at side i) (strip_triangles side (x ∷ xs) (1 ∷ ends))
-      go (inl e) = inl (equal_numbers i x e ∙ r.0)
+      go (inl e) = inl (eqb-true i x e ∙ r.0)
       go (inr k) =
           inr (found_outers (outer_at side i) side (outer_at side x) (inner_at side 1) (map (step_at side) (merge xs ends))
           (ap (list_any (point_eq (outer_at side i)))
@@ -396,17 +379,17 @@ module _ (grid : List ℤ) (tol : ℕ) (kept : Side → List ℕ) (rises : (side
     where
       go : (point_eq p t.a ≡ true) ⊎ ((point_eq p t.b || (point_eq p t.c || list_any (point_eq p) (corners ts))) ≡ true)
           → (Found p ts → Found p (ts ++ us)) → Found p (t ∷ (ts ++ us))
-      go (inl e) f = or_first (point_eq p t.a) _ e
-      go (inr e) f = or_second (point_eq p t.a) _ (second (or_cases (point_eq p t.b) _ e))
+      go (inl e) f = or_left (point_eq p t.a) _ e
+      go (inr e) f = or_right (point_eq p t.a) _ (second (or_cases (point_eq p t.b) _ e))
         where
           third : (point_eq p t.c ≡ true) ⊎ Found p ts → (point_eq p t.c || list_any (point_eq p) (corners (ts ++ us))) ≡ true
-          third (inl e) = or_first (point_eq p t.c) _ e
-          third (inr e) = or_second (point_eq p t.c) _ (f e)
+          third (inl e) = or_left (point_eq p t.c) _ e
+          third (inr e) = or_right (point_eq p t.c) _ (f e)
 
           second : (point_eq p t.b ≡ true) ⊎ ((point_eq p t.c || list_any (point_eq p) (corners ts)) ≡ true)
               → (point_eq p t.b || (point_eq p t.c || list_any (point_eq p) (corners (ts ++ us)))) ≡ true
-          second (inl e) = or_first (point_eq p t.b) _ e
-          second (inr e) = or_second (point_eq p t.b) _ (third (or_cases (point_eq p t.c) _ e))
+          second (inl e) = or_left (point_eq p t.b) _ e
+          second (inr e) = or_right (point_eq p t.b) _ (third (or_cases (point_eq p t.c) _ e))
 
   right : (p : GridPoint) (ts us : List (Triple GridPoint)) → Found p us → Found p (ts ++ us)
   right p [] us h = h

@@ -1,8 +1,9 @@
 -- The vertices of an edge's list are its kept points.
-use Rattle.std.proofs.Common.{◌≡◌, ℕ, zero, suc, ◌+◌, ◌<◌, ◌≤◌, arith, Bool, true, false, not, cond, ◌||◌, List, [], ◌∷◌, map, length, nat_eq, nat_lt, filter, refl, ap, ◌∙◌, Some, None}
+use Rattle.std.proofs.Common.{◌≡◌, ℕ, zero, suc, ◌+◌, ◌<◌, ◌≤◌, arith, Bool, true, false, cond, ◌||◌, List, [], ◌∷◌, map, nat_eq, filter, refl, ap, ◌∙◌}
 use Rattle.std.specs.Prelude.{ℤ, filter_map, position}
-use Rattle.std.specs.List.{list_any, position_or_len, range_with_len, cons_option}
+use Rattle.std.specs.List.{list_any, range_with_len, cons_option}
 use Rattle.std.proofs.lemmas.Bool.Decides.{nat_tests}
+use Rattle.std.proofs.lemmas.Bool.{eqb-true}
 use Rattle.quad_split.specs.Split.{is_split}
 use Rattle.terrain_base.specs.Grid.{tolerance_of}
 use Rattle.terrain_base.specs.declared.side.Side.{Side}
@@ -16,30 +17,9 @@ use Rattle.tile_mesh.specs.Rule.{triangles_of}
 use Rattle.tile_mesh.specs.Sides.{outer_at}
 use Rattle.tile_mesh.proofs.Corners.{vertex_is}
 use Rattle.tile_mesh.proofs.EdgePoints.{corners_are_kept}
-use Rattle.tile_mesh.proofs.FirstUses.{place_below, first_any}
+use Rattle.tile_mesh.proofs.FirstUses.{first_any}
 use Rattle.tile_mesh.proofs.KeptLists.{kept_to_66}
-
--- ---- positions
-no_place : (p : GridPoint) (ks : List GridPoint) → list_any (point_eq p) ks ≡ false → position_or_len (point_eq p) ks ≡ length ks
-no_place p [] h = refl
-no_place p (k ∷ ks) h = (elim (point_eq p k) as (λ b. (b || list_any (point_eq p) ks) ≡ false → cond (not b) (1 + position_or_len (point_eq p) ks) 0 ≡ suc (length ks)) [
-  | true ↦ λ e. absurd (let z = e in cc)
-  | false ↦ λ e. omega (arith, no_place p ks e)
-]) h
-
-less_yes : (a b : ℕ) → a < b → nat_lt a b ≡ true
-less_yes a b h = grind (arith, nat_tests)
-
-less_no : (a b : ℕ) → a ≡ b → nat_lt a b ≡ false
-less_no a b h = grind (arith, nat_tests)
-
-position_some : (p : GridPoint) (ks : List GridPoint) → list_any (point_eq p) ks ≡ true → position (point_eq p) ks ≡ Some (position_or_len (point_eq p) ks)
-position_some p ks h =
-    ap (λ (b : Bool). cond b (Some (position_or_len (point_eq p) ks)) None) (less_yes (position_or_len (point_eq p) ks) (length ks) (place_below p ks h))
-
-position_none : (p : GridPoint) (ks : List GridPoint) → list_any (point_eq p) ks ≡ false → position (point_eq p) ks ≡ None
-position_none p ks h =
-    ap (λ (b : Bool). cond b (Some (position_or_len (point_eq p) ks)) None) (less_no (position_or_len (point_eq p) ks) (length ks) (no_place p ks h))
+use Rattle.tile_mesh.proofs.Places.{position_found, position_missing}
 
 -- the vertices of those of the points that are found
 found_vertices : (grid : List ℤ) (ks : List GridPoint) (f : ℕ → GridPoint) (is : List ℕ)
@@ -53,8 +33,8 @@ found_vertices grid ks f (i ∷ is) = go (list_any (point_eq (f i)) ks) refl (fo
         ≡ map (λ i. vertex_at grid (f i)) (filter (λ i. list_any (point_eq (f i)) ks) is)
         → map (vertex (map (vertex_at grid) ks)) (cons_option (position (point_eq (f i)) ks) (filter_map (λ p. position (point_eq p) ks) (map f is)))
         ≡ map (λ i. vertex_at grid (f i)) (cond b (i ∷ filter (λ i. list_any (point_eq (f i)) ks) is) (filter (λ i. list_any (point_eq (f i)) ks) is))
-    go true e next = rw (position_some (f i) ks e, vertex_is grid (f i) ks e, next) refl
-    go false e next = rw (position_none (f i) ks e) next
+    go true e next = rw (position_found (f i) ks e, vertex_is grid (f i) ks e, next) refl
+    go false e next = rw (position_missing (f i) ks e) next
 
 -- ---- the numbers of a range that a rising list has
 filter_same : (f g : ℕ → Bool) → ((i : ℕ) → f i ≡ g i) → (is : List ℕ) → filter f is ≡ filter g is
@@ -80,12 +60,6 @@ same_no a b h = grind (arith, nat_tests)
 
 other_no : (a b : ℕ) → b < a → nat_eq a b ≡ false
 other_no a b h = grind (arith, nat_tests)
-
-number_itself : (n : ℕ) → nat_eq n n ≡ true
-number_itself n = grind (arith, nat_tests)
-
-equal_numbers : (a b : ℕ) → nat_eq a b ≡ true → a ≡ b
-equal_numbers a b e = grind (arith, nat_tests)
 
 apart_numbers : (a b : ℕ) → nat_eq a b ≡ false → a ≤ b → a < b
 apart_numbers a b e l = grind (arith, nat_tests)
@@ -116,7 +90,7 @@ picked i (suc n) (x ∷ xs) h = go (nat_eq i x) refl (picked (i + 1) n xs) (pick
         → (Between (i + 1) (x ∷ xs) (i + 1 + n) → filter (λ j. list_any (nat_eq j) (x ∷ xs)) (range_with_len (i + 1) n) ≡ x ∷ xs)
         → cond (b || list_any (nat_eq i) xs) (i ∷ filter (λ j. list_any (nat_eq j) (x ∷ xs)) (range_with_len (i + 1) n)) (filter (λ j. list_any (nat_eq j) (x ∷ xs)) (range_with_len (i + 1) n)) ≡ x ∷ xs
     go true e f g =
-        let q = equal_numbers i x e in
+        let q = eqb-true i x e in
         ap (λ (js : List ℕ). i ∷ js)
         (filter_from (λ j. list_any (nat_eq j) (x ∷ xs)) (λ j. list_any (nat_eq j) xs) (i + 1) n
         (λ j l. ap (λ (b : Bool). b || list_any (nat_eq j) xs) (other_no j x (omega (arith, l, q))))

@@ -1,9 +1,10 @@
 -- Points by first use.
-use Rattle.std.proofs.Common.{◌≡◌, ℕ, zero, suc, ◌+◌, ◌<◌, ◌≤◌, arith, Bool, true, false, not, cond, ◌&&◌, ◌||◌, List, [], ◌∷◌, ◌++◌, map, length, nat_eq, refl, ap, sym, ◌∙◌, subst, append_assoc, inl, inr}
+use Rattle.std.proofs.Common.{◌≡◌, ℕ, zero, suc, ◌+◌, ◌<◌, ◌≤◌, arith, Bool, true, false, not, cond, ◌||◌, List, [], ◌∷◌, ◌++◌, map, length, refl, ap, sym, ◌∙◌, subst, append_assoc, inl, inr}
 use Rattle.std.specs.Prelude.{slice_index_or, Contains, ◌⊎◌}
 use Rattle.std.specs.List.{position_or_len, list_any, IsDistinct, AllByRecursion}
-use Rattle.std.proofs.lemmas.Bool.Decides.{nat_tests}
 use Rattle.std.proofs.lemmas.List.Elements.{Contains-append_right, Contains-append_cases}
+use Rattle.std.proofs.lemmas.Bool.{or_right}
+use Rattle.std.proofs.Math.Bool.{or-true, or-false, or_assoc}
 use Rattle.mesh_plane.specs.Triangles.{Triple}
 use Rattle.mesh_plane.proofs.ListWords.{all_from}
 use Rattle.mesh_plane.proofs.Tilings.{all_map}
@@ -11,24 +12,15 @@ use Rattle.tile_mesh.specs.declared.point.GridPoint.{GridPoint}
 use Rattle.tile_mesh.specs.Sides.{grid_point}
 use Rattle.tile_mesh.specs.Numbers.{point_eq, first_uses, corners, numbered, with_point, with_points}
 use Rattle.tile_mesh.specs.Numbering.{first_use, named, ArePoints, IsNumbering}
-use Rattle.tile_mesh.proofs.Steps.{keys_after}
-use Rattle.tile_mesh.proofs.Corners.{AreFound, found}
+use Rattle.tile_mesh.proofs.Steps.{keys_after, point_itself}
+use Rattle.tile_mesh.proofs.Corners.{AreFound, found, same_numbers}
 use Rattle.tile_mesh.proofs.MergeOrder.{Pairs, pairs_from}
 
 -- ---- equal points
-numbers_equal : (a b c d : ℕ) → (nat_eq a c && nat_eq b d) ≡ true → (a ≡ c) × (b ≡ d)
-numbers_equal a b c d e = (grind (arith, nat_tests), grind (arith, nat_tests))
-
 pub points_equal : (p q : GridPoint) → point_eq p q ≡ true → p ≡ q
 points_equal p q e =
-    let s = numbers_equal p.i p.j q.i q.j e in
+    let s = same_numbers p.i p.j q.i q.j e in
     ap (λ (i : ℕ). grid_point i p.j) s.0 ∙ ap (λ (j : ℕ). grid_point q.i j) s.1
-
-same_number : (n : ℕ) → nat_eq n n ≡ true
-same_number n = grind (arith, nat_tests)
-
-pub point_itself : (p : GridPoint) → point_eq p p ≡ true
-point_itself p = rw (same_number p.i, same_number p.j)
 
 -- ---- lists that have a point
 pub any_cons : (p k : GridPoint) (ks : List GridPoint) → Contains (k ∷ ks) p → (k ≡ p) ⊎ Contains ks p
@@ -45,11 +37,7 @@ any_to p (k ∷ ks) h = go (any_cons p k ks h) (any_to p ks)
   where
     go : (k ≡ p) ⊎ Contains ks p → (Contains ks p → list_any (point_eq p) ks ≡ true) → (point_eq p k || list_any (point_eq p) ks) ≡ true
     go (inl e) f = ap (λ (q : GridPoint). point_eq p q || list_any (point_eq p) ks) e ∙ ap (λ (b : Bool). b || list_any (point_eq p) ks) (point_itself p)
-    go (inr h) f = or_true (point_eq p k) (list_any (point_eq p) ks) (f h)
-      where
-        or_true : (a b : Bool) → b ≡ true → (a || b) ≡ true
-        or_true true b e = refl
-        or_true false b e = e
+    go (inr h) f = or_right (point_eq p k) (list_any (point_eq p) ks) (f h)
 
 pub any_from : (p : GridPoint) (ks : List GridPoint) → list_any (point_eq p) ks ≡ true → Contains ks p
 any_from p [] h = absurd (let z = h in cc)
@@ -60,52 +48,30 @@ any_from p (k ∷ ks) h = go (point_eq p k) refl h (any_from p ks)
     go true e f next = (0, omega arith, sym (points_equal p k e))
     go false e f next = Contains-append_right (k ∷ []) ks p (next f)
 
--- ---- the first uses have the points of the list
-or_first : (a b : Bool) → a ≡ true → (a || b) ≡ true
-or_first true b e = refl
-or_first false b e = absurd (let z = e in cc)
+pub any_push : (p k : GridPoint) (ks : List GridPoint) → list_any (point_eq p) (ks ++ k ∷ []) ≡ (list_any (point_eq p) ks || point_eq p k)
+any_push p k [] = or-false (point_eq p k)
+any_push p k (q ∷ ks) =
+    ap (λ (b : Bool). point_eq p q || b) (any_push p k ks)
+    ∙ sym (or_assoc (point_eq p q) (list_any (point_eq p) ks) (point_eq p k))
 
+-- ---- the first uses have the points of the list
 put_any : (p k : GridPoint) (ks : List GridPoint) → list_any (point_eq p) (with_point ks k) ≡ (list_any (point_eq p) ks || point_eq p k)
 put_any p k ks = go (list_any (point_eq k) ks) refl
   where
-    last : (ks : List GridPoint) → list_any (point_eq p) (ks ++ k ∷ []) ≡ (list_any (point_eq p) ks || point_eq p k)
-    last [] = or_false (point_eq p k)
-      where
-        or_false : (a : Bool) → (a || false) ≡ a
-        or_false true = refl
-        or_false false = refl
-    last (q ∷ ks) = ap (λ (b : Bool). point_eq p q || b) (last ks) ∙ or_assoc (point_eq p q) (list_any (point_eq p) ks) (point_eq p k)
-      where
-        or_assoc : (a b c : Bool) → (a || (b || c)) ≡ ((a || b) || c)
-        or_assoc true b c = refl
-        or_assoc false b c = refl
-
     stays : (b : Bool) → point_eq p k ≡ b → list_any (point_eq k) ks ≡ true → list_any (point_eq p) ks ≡ (list_any (point_eq p) ks || b)
     stays true e f = subst (λ (q : GridPoint). list_any (point_eq q) ks ≡ (list_any (point_eq q) ks || true)) (sym (points_equal p k e)) (rw f refl)
-    stays false e f = or_none (list_any (point_eq p) ks)
-      where
-        or_none : (a : Bool) → a ≡ (a || false)
-        or_none true = refl
-        or_none false = refl
+    stays false e f = sym (or-false (list_any (point_eq p) ks))
 
     go : (b : Bool) → list_any (point_eq k) ks ≡ b → list_any (point_eq p) (cond b ks (ks ++ k ∷ [])) ≡ (list_any (point_eq p) ks || point_eq p k)
     go true e = stays (point_eq p k) refl e
-    go false e = last ks
+    go false e = any_push p k ks
 
 put_all_any : (p : GridPoint) (ks ps : List GridPoint) → list_any (point_eq p) (with_points ks ps) ≡ (list_any (point_eq p) ks || list_any (point_eq p) ps)
-put_all_any p ks [] = or_none (list_any (point_eq p) ks)
-  where
-    or_none : (a : Bool) → a ≡ (a || false)
-    or_none true = refl
-    or_none false = refl
+put_all_any p ks [] = sym (or-false (list_any (point_eq p) ks))
 put_all_any p ks (k ∷ ps) =
     put_all_any p (with_point ks k) ps
     ∙ ap (λ (b : Bool). b || list_any (point_eq p) ps) (put_any p k ks)
     ∙ or_assoc (list_any (point_eq p) ks) (point_eq p k) (list_any (point_eq p) ps)
-  where
-    or_assoc : (a b c : Bool) → ((a || b) || c) ≡ (a || (b || c))
-    or_assoc true b c = refl
-    or_assoc false b c = refl
 
 pub first_any : (p : GridPoint) (ps : List GridPoint) → list_any (point_eq p) (first_uses [] ps) ≡ list_any (point_eq p) ps
 first_any p ps = ap (list_any (point_eq p)) (sym (keys_after ps [])) ∙ put_all_any p [] ps
@@ -128,18 +94,6 @@ Later all n p = n ≤ position_or_len (point_eq p) all
 abbrev Before : List GridPoint → GridPoint → GridPoint → Type 0
 Before all p q = position_or_len (point_eq p) all < position_or_len (point_eq q) all
 
-pub any_push : (p k : GridPoint) (ks : List GridPoint) → list_any (point_eq p) (ks ++ k ∷ []) ≡ (list_any (point_eq p) ks || point_eq p k)
-any_push p k [] = or_false (point_eq p k)
-  where
-    or_false : (a : Bool) → (a || false) ≡ a
-    or_false true = refl
-    or_false false = refl
-any_push p k (q ∷ ks) = ap (λ (b : Bool). point_eq p q || b) (any_push p k ks) ∙ or_assoc (point_eq p q) (list_any (point_eq p) ks) (point_eq p k)
-  where
-    or_assoc : (a b c : Bool) → (a || (b || c)) ≡ ((a || b) || c)
-    or_assoc true b c = refl
-    or_assoc false b c = refl
-
 seen_both : (seen done : List GridPoint) (k : GridPoint) → SameSeen seen done → SameSeen (seen ++ k ∷ []) (done ++ k ∷ [])
 seen_both seen done k s p = any_push p k seen ∙ ap (λ (b : Bool). b || point_eq p k) (s p) ∙ sym (any_push p k done)
 
@@ -149,16 +103,8 @@ seen_more seen done k s h p = go (point_eq p k) refl
     go : (b : Bool) → point_eq p k ≡ b → list_any (point_eq p) seen ≡ list_any (point_eq p) (done ++ k ∷ [])
     go true e =
         subst (λ (q : GridPoint). list_any (point_eq q) seen ≡ true) (sym (points_equal p k e)) h
-        ∙ sym (any_push p k done ∙ ap (λ (b : Bool). list_any (point_eq p) done || b) e ∙ or_true (list_any (point_eq p) done))
-      where
-        or_true : (a : Bool) → (a || true) ≡ true
-        or_true true = refl
-        or_true false = refl
-    go false e = s p ∙ sym (any_push p k done ∙ ap (λ (b : Bool). list_any (point_eq p) done || b) e ∙ or_false (list_any (point_eq p) done))
-      where
-        or_false : (a : Bool) → (a || false) ≡ a
-        or_false true = refl
-        or_false false = refl
+        ∙ sym (any_push p k done ∙ ap (λ (b : Bool). list_any (point_eq p) done || b) e ∙ or-true (list_any (point_eq p) done))
+    go false e = s p ∙ sym (any_push p k done ∙ ap (λ (b : Bool). list_any (point_eq p) done || b) e ∙ or-false (list_any (point_eq p) done))
 
 push_length : (ks : List GridPoint) (k : GridPoint) → length (ks ++ k ∷ []) ≡ suc (length ks)
 push_length [] k = refl

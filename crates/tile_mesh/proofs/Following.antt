@@ -3,12 +3,15 @@ use Rattle.std.proofs.Common.{◌≡◌, ℕ, ◌<◌, ◌≤◌, refl, ap, sym,
 use Rattle.std.specs.Prelude.{ℤ, pos, ◌-ℤ◌, ◌*ℤ◌, ◌≤ℤ◌, ◌<ℤ◌, unsigned_abs, All, Any}
 use Rattle.std.specs.List.{AllByRecursion}
 use Rattle.std.proofs.lemmas.Int.{ints}
+use Rattle.std.proofs.lemmas.Bool.{leb-true, leb-false}
+use Rattle.common_laws.proofs.Sizes.{near_of_size, size_of_near}
 use Rattle.mesh_plane.specs.declared.corner.Tri.{Tri}
 use Rattle.mesh_plane.specs.Plane.{doubled_area, TriangleHolds, IsCounterClockwise}
 use Rattle.mesh_plane.specs.Surface.{lift_of, HasHeight, Surface}
 use Rattle.mesh_plane.specs.Triangles.{Triple}
 use Rattle.mesh_plane.proofs.ListWords.{all_from, all_map_from}
 use Rattle.mesh_plane.proofs.Scales.{placed}
+use Rattle.mesh_plane.proofs.SurfaceLaws.{near_moved}
 use Rattle.quad_split.specs.Fits.{Follows}
 use Rattle.quad_split.specs.Split.{is_split}
 use Rattle.quad_split.proofs.Nodes.{is_node_yes}
@@ -27,8 +30,7 @@ use Rattle.tile_mesh.proofs.Framing.{triangles_tile, triangles_level}
 use Rattle.tile_mesh.proofs.KeptLists.{kept_to_66}
 use Rattle.tile_mesh.proofs.LeafHeights.{ShownNear, spot, spot_is, node_near}
 use Rattle.tile_mesh.proofs.Made.{mesh_covers}
-use Rattle.tile_mesh.proofs.MergeOrder.{le_is, gt_is}
-use Rattle.tile_mesh.proofs.Nearness.{IsShownNear, NearAt, near_moved, near_left, near_right, all_near, gap_of_near, near_of_size, size_of_near}
+use Rattle.tile_mesh.proofs.Nearness.{IsShownNear, NearAt, near_left, near_right, all_near, gap_of_near}
 use Rattle.tile_mesh.proofs.Placing.{place, height, at}
 
 one : pos 1 ≤ℤ pos 1
@@ -38,8 +40,8 @@ by_le : {P : Type 0} (a b : ℕ) → (a ≤ b → P) → (b < a → P) → P
 by_le {P} a b f g = go (nat_le a b) refl
   where
     go : (t : Bool) → nat_le a b ≡ t → P
-    go true e = f (le_is a b e)
-    go false e = g (gt_is a b e)
+    go true e = f (leb-true a b e)
+    go false e = g (leb-false a b e)
 
 module _ (grid : List ℤ) (tol i j : ℕ) (bound : i ≤ 66) (bound' : j ≤ 66) where
   abbrev kept : Side → List ℕ

@@ -2,6 +2,7 @@
 use Rattle.std.proofs.Common.{◌≡◌, ℕ, zero, suc, ◌+◌, ◌-◌, ◌*◌, ◌/◌, ◌^◌, ◌≤◌, Bool, true, false, [], ◌∷◌, ◌++◌, refl, ap, ◌∙◌, arith, subst}
 use Rattle.std.specs.Prelude.{if◌then◌else◌}
 use Rattle.std.specs.List.{AllByRecursion}
+use Rattle.std.proofs.Math.Nat.{pow-succ'}
 use Rattle.mesh_plane.proofs.Tilings.{all_append}
 use Rattle.mesh_plane.specs.Quadtree.{line_of}
 use Rattle.tile_mesh.specs.Rule.{leaf_ends}
@@ -48,15 +49,12 @@ second_half_fits k n m h e l =
     second_fits m (n / 2) (subst (λ (i : ℕ). (m + 1) * i ≤ 64) (twice_half k n h e) l)
 
 -- ---- the ends lie on the grid
-doubled : (k : ℕ) → 2 ^ suc k ≡ 2 * 2 ^ k
-doubled k = omega arith
-
 pub ends_within : (b : ℕ → ℕ → Bool) (k m : ℕ) → (m + 1) * 2 ^ k ≤ 64
     → AllByRecursion (λ x. x ≤ 66) (leaf_ends b k m)
 ends_within b zero m l = (omega (arith, l), tt)
 ends_within b (suc k) m l =
-    go (b (suc k) m) (ends_within b k (2 * m) (first_fits m (2 ^ k) (subst (λ (i : ℕ). (m + 1) * i ≤ 64) (doubled k) l)))
-    (ends_within b k (2 * m + 1) (second_fits m (2 ^ k) (subst (λ (i : ℕ). (m + 1) * i ≤ 64) (doubled k) l)))
+    go (b (suc k) m) (ends_within b k (2 * m) (first_fits m (2 ^ k) (subst (λ (i : ℕ). (m + 1) * i ≤ 64) (pow-succ' 2 k) l)))
+    (ends_within b k (2 * m + 1) (second_fits m (2 ^ k) (subst (λ (i : ℕ). (m + 1) * i ≤ 64) (pow-succ' 2 k) l)))
   where
     go : (c : Bool) → AllByRecursion (λ x. x ≤ 66) (leaf_ends b k (2 * m))
         → AllByRecursion (λ x. x ≤ 66) (leaf_ends b k (2 * m + 1))

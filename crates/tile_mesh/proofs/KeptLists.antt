@@ -1,8 +1,8 @@
 -- Lists that rise, read from one number to the next.
-use Rattle.std.proofs.Common.{◌≡◌, ℕ, suc, ◌<◌, ◌≤◌, arith, Bool, true, false, List, [], ◌∷◌, ◌++◌, refl, ap, sym, ◌∙◌, nat_le, subst}
+use Rattle.std.proofs.Common.{◌≡◌, ℕ, suc, ◌≤◌, arith, Bool, true, false, List, [], ◌∷◌, ◌++◌, refl, ap, sym, ◌∙◌, nat_le, subst}
 use Rattle.std.specs.Prelude.{if◌then◌else◌, ℤ}
 use Rattle.std.specs.List.{AllByRecursion}
-use Rattle.std.proofs.lemmas.Bool.Decides.{nat_tests}
+use Rattle.std.proofs.lemmas.Bool.{leb-false, le-leb, lt-leb}
 use Rattle.edge_decimate.specs.KeptLine.{first_from}
 use Rattle.edge_decimate.specs.KeptPoints.{kept_between, kept_points}
 use Rattle.edge_decimate.proofs.Halves as halves
@@ -13,21 +13,9 @@ abbrev pub from_on : ℕ → List ℕ → List ℕ
 from_on k [] = []
 from_on k (x ∷ xs) = if nat_le k x then x ∷ xs else from_on k xs
 
-le_yes : (a b : ℕ) → a ≤ b → nat_le a b ≡ true
-le_yes a b h = grind (arith, nat_tests)
-
-le_no : (a b : ℕ) → b < a → nat_le a b ≡ false
-le_no a b h = grind (arith, nat_tests)
-
-le_is : (a b : ℕ) → nat_le a b ≡ true → a ≤ b
-le_is a b h = grind (arith, nat_tests)
-
-gt_is : (a b : ℕ) → nat_le a b ≡ false → b < a
-gt_is a b h = grind (arith, nat_tests)
-
 pub rises_on : (a : ℕ) (xs : List ℕ) (b : ℕ) → Rises a xs b → from_on (suc a) xs ≡ xs
 rises_on a [] b h = refl
-rises_on a (x ∷ xs) b h = rw (le_yes (suc a) x (omega (arith, h.0))) refl
+rises_on a (x ∷ xs) b h = rw (le-leb (suc a) x (omega (arith, h.0))) refl
 
 step : (i x b : ℕ) (xs : List ℕ) → Rises x xs b
     → (suc i ≤ first_from (suc i) xs
@@ -38,12 +26,12 @@ step : (i x b : ℕ) (xs : List ℕ) → Rises x xs b
     ≡ (if t then x else first_from (suc i) xs) ∷ from_on (suc (if t then x else first_from (suc i) xs)) (x ∷ xs)
 step i x b xs h next true e k =
     ap (λ (ys : List ℕ). x ∷ ys)
-    (sym (ap (λ (t : Bool). if t then x ∷ xs else from_on (suc x) xs) (le_no (suc x) x (omega arith)) ∙ rises_on x xs b h))
+    (sym (ap (λ (t : Bool). if t then x ∷ xs else from_on (suc x) xs) (lt-leb (suc x) x (omega arith)) ∙ rises_on x xs b h))
 step i x b xs h next false e k =
     let f = first_from (suc i) xs in
     next k
     ∙ ap (λ (ys : List ℕ). f ∷ ys)
-    (sym (ap (λ (t : Bool). if t then x ∷ xs else from_on (suc f) xs) (le_no (suc f) x (omega (arith, k, gt_is (suc i) x e)))))
+    (sym (ap (λ (t : Bool). if t then x ∷ xs else from_on (suc f) xs) (lt-leb (suc f) x (omega (arith, k, leb-false (suc i) x e)))))
 
 next_in : (i a b : ℕ) (xs : List ℕ) → Rises a xs b → suc i ≤ first_from (suc i) xs
     → from_on (suc i) xs ≡ first_from (suc i) xs ∷ from_on (suc (first_from (suc i) xs)) xs
@@ -54,7 +42,7 @@ above_last : (a b : ℕ) (xs : List ℕ) → Rises a xs b → (a ≤ b) × (from
 above_last a b [] h = (omega (arith, h), refl)
 above_last a b (x ∷ xs) h =
     let r = above_last x b xs h.1 in
-    (omega (arith, h.0, r.0), rw (le_no (suc b) x (omega (arith, r.0))) r.1)
+    (omega (arith, h.0, r.0), rw (lt-leb (suc b) x (omega (arith, r.0))) r.1)
 
 rises_within : (a b : ℕ) (xs : List ℕ) → Rises a xs b → AllByRecursion (λ x. x ≤ b) xs
 rises_within a b [] h = tt

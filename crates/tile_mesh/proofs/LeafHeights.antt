@@ -3,6 +3,7 @@ use Rattle.std.proofs.Common.{◌≡◌, ℕ, zero, suc, ◌+◌, ◌*◌, ◌�
 use Rattle.std.specs.Prelude.{ℤ, pos, ◌*ℤ◌, ◌≤ℤ◌, if◌then◌else◌, ◌⊎◌}
 use Rattle.std.specs.List.{AllByRecursion}
 use Rattle.std.proofs.lemmas.Int.{ints}
+use Rattle.std.proofs.lemmas.Bool.{leb-true, leb-false}
 use Rattle.mesh_plane.specs.Plane.{Point, point}
 use Rattle.mesh_plane.specs.Triangles.{Triple, fan, tri_of}
 use Rattle.mesh_plane.specs.Fan.{south_of, east_of, north_of, west_of}
@@ -13,6 +14,7 @@ use Rattle.mesh_plane.proofs.Heights.{Shown, lift}
 use Rattle.mesh_plane.proofs.Edges.{Meets, meets_a, meets_b, meets_c}
 use Rattle.mesh_plane.proofs.Quads.{leaf_tiles, smallest_tiles, line_left, line_right}
 use Rattle.mesh_plane.proofs.Scales.{placed}
+use Rattle.mesh_plane.proofs.SurfaceLaws.{IsNear}
 use Rattle.quad_split.specs.Node.{is_node}
 use Rattle.quad_split.specs.Fan.{grid_corner, fan_triangles}
 use Rattle.quad_split.specs.Fits.{Follows, Fits}
@@ -24,8 +26,7 @@ use Rattle.terrain_base.specs.Grid as tile
 use Rattle.tile_mesh.specs.declared.point.GridPoint.{GridPoint}
 use Rattle.tile_mesh.specs.Sides.{grid_point}
 use Rattle.tile_mesh.proofs.LeafLists.{fan_sides}
-use Rattle.tile_mesh.proofs.MergeOrder.{le_is, gt_is}
-use Rattle.tile_mesh.proofs.Nearness.{IsNear, IsShownNear, NearAt, near_itself, near_left, near_right, held_near, near_of_gap}
+use Rattle.tile_mesh.proofs.Nearness.{IsShownNear, NearAt, near_itself, near_left, near_right, held_near, near_of_gap}
 use Rattle.tile_mesh.proofs.Placing.{place, height, at, line, line_up}
 
 -- the fan over a side, with the midpoint or without
@@ -39,8 +40,8 @@ by_le : {P : Type 0} (a b : ℕ) → (a ≤ b → P) → (b ≤ a → P) → P
 by_le {P} a b f g = go (nat_le a b) refl
   where
     go : (t : Bool) → nat_le a b ≡ t → P
-    go true e = f (le_is a b e)
-    go false e = g (omega (arith, gt_is a b e))
+    go true e = f (leb-true a b e)
+    go false e = g (omega (arith, leb-false a b e))
 
 one : pos 1 ≤ℤ pos 1
 one = omega (arith, ints)
@@ -50,8 +51,8 @@ two_lines : (x i : ℕ) → line_of zero x ≤ i → i ≤ line_of zero (x + 1) 
 two_lines x i l h = by_le i (line_of zero x) (λ k. inl (omega (arith, k, l))) (λ k. next (nat_le i (line_of zero x)) refl)
   where
     next : (t : Bool) → nat_le i (line_of zero x) ≡ t → (i ≡ line_of zero x) ⊎ (i ≡ line_of zero (x + 1))
-    next true e = inl (omega (arith, le_is i (line_of zero x) e, l))
-    next false e = inr (omega (arith, gt_is i (line_of zero x) e, h))
+    next true e = inl (omega (arith, leb-true i (line_of zero x) e, l))
+    next false e = inr (omega (arith, leb-false i (line_of zero x) e, h))
 
 module _ (grid : List ℤ) (tol i j : ℕ) where
   abbrev pub at_one : GridPoint → Point

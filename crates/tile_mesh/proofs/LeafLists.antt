@@ -1,5 +1,6 @@
 -- The triangles of a node's leaves, by those of its quarters and by its corners.
 use Rattle.std.proofs.Common.{◌≡◌, ℕ, zero, suc, ◌+◌, ◌-◌, ◌*◌, ◌/◌, ◌^◌, Bool, true, false, List, [], ◌∷◌, ◌++◌, refl, ap, sym, ◌∙◌, subst, arith, add-zero}
+use Rattle.std.proofs.Math.Nat.{pow-succ'}
 use Rattle.mesh_plane.specs.Triangles.{Triple, fan}
 use Rattle.mesh_plane.specs.Fan.{Ring, round, south_of, east_of, north_of, west_of}
 use Rattle.mesh_plane.specs.Quadtree.{line_of, halves, midpoint, Midpoints, leaves}
@@ -36,9 +37,6 @@ middle_is x n = omega arith
 end_is : (x n : ℕ) → 1 + (x + 1) * (2 * n) ≡ 1 + x * (2 * n) + 2 * n
 end_is x n = omega arith
 
-twice : (k : ℕ) → 2 ^ suc k ≡ 2 * 2 ^ k
-twice k = omega arith
-
 -- a leaf over the grid points of six lines
 abbrev leaf_on : ℕ → ℕ → ℕ → ℕ → ℕ → ℕ → Midpoints → List (Triple GridPoint)
 leaf_on w x e s y n m = fan (grid_point x y) (grid_point w s) (round (record {
@@ -59,12 +57,12 @@ leaf_by w x e s y n h i j m a b c d f g = rw (a, b, c, d, f, g)
 half_side : (k x i : ℕ) → i ≡ 1 + x * 2 ^ suc k → line_of k (2 * x + 1) ≡ i + 2 ^ suc k / 2
 half_side k x i e =
     let h : 2 ^ suc k / 2 ≡ 2 ^ k = omega arith in
-    rw (e, h, twice k) (middle_is x (2 ^ k))
+    rw (e, h, pow-succ' 2 k) (middle_is x (2 ^ k))
 
 whole_side : (k x i : ℕ) → i ≡ 1 + x * 2 ^ suc k → line_of (suc k) (x + 1) ≡ i + 2 * (2 ^ suc k / 2)
 whole_side k x i e =
     let h : 2 ^ suc k / 2 ≡ 2 ^ k = omega arith in
-    rw (e, h, twice k) (end_is x (2 ^ k))
+    rw (e, h, pow-succ' 2 k) (end_is x (2 ^ k))
 
 whole : (p : ℕ → ℕ → ℕ → Bool) (m : ℕ → ℕ → ℕ → Midpoints) (k x y i j : ℕ) → (k ≡ 0 → ⊥) → p k x y ≡ false
     → i ≡ 1 + x * 2 ^ k → j ≡ 1 + y * 2 ^ k

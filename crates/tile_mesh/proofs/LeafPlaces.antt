@@ -5,6 +5,7 @@ use Rattle.std.specs.List.{AllByRecursion}
 use Rattle.std.proofs.lemmas.Nat.{pow_pos}
 use Rattle.std.proofs.lemmas.Grind.{flat_map-append}
 use Rattle.std.proofs.lemmas.List.Elements.{Contains-append_left, Contains-append_right, All-contains}
+use Rattle.std.proofs.Math.Nat.{pow-succ'}
 use Rattle.mesh_plane.specs.Triangles.{Triple}
 use Rattle.mesh_plane.specs.Quadtree.{leaves}
 use Rattle.mesh_plane.proofs.ListWords.{all_from}
@@ -69,12 +70,9 @@ record BeginsIn (k x y : ℕ) (n : NodePlace) : Type 0 where
   south : y * 2 ^ k ≤ n.y * 2 ^ n.level
   north : n.y * 2 ^ n.level < (y + 1) * 2 ^ k
 
-twice : (k : ℕ) → 2 ^ suc k ≡ 2 * 2 ^ k
-twice k = omega arith
-
 low_half : (k x m : ℕ) → 2 * x * 2 ^ k ≤ m → m < (2 * x + 1) * 2 ^ k → (x * 2 ^ suc k ≤ m) × (m < (x + 1) * 2 ^ suc k)
 low_half k x m a b =
-    subst (λ (q : ℕ). (x * q ≤ m) × (m < (x + 1) * q)) (sym (twice k)) (go (2 ^ k) a b)
+    subst (λ (q : ℕ). (x * q ≤ m) × (m < (x + 1) * q)) (sym (pow-succ' 2 k)) (go (2 ^ k) a b)
   where
     go : (p : ℕ) → 2 * x * p ≤ m → m < (2 * x + 1) * p → (x * (2 * p) ≤ m) × (m < (x + 1) * (2 * p))
     go p a b = (omega (arith, a), omega (arith, b))
@@ -82,7 +80,7 @@ low_half k x m a b =
 high_half : (k x m : ℕ) → (2 * x + 1) * 2 ^ k ≤ m → m < (2 * x + 1 + 1) * 2 ^ k
     → (x * 2 ^ suc k ≤ m) × (m < (x + 1) * 2 ^ suc k)
 high_half k x m a b =
-    subst (λ (q : ℕ). (x * q ≤ m) × (m < (x + 1) * q)) (sym (twice k)) (go (2 ^ k) a b)
+    subst (λ (q : ℕ). (x * q ≤ m) × (m < (x + 1) * q)) (sym (pow-succ' 2 k)) (go (2 ^ k) a b)
   where
     go : (p : ℕ) → (2 * x + 1) * p ≤ m → m < (2 * x + 1 + 1) * p → (x * (2 * p) ≤ m) × (m < (x + 1) * (2 * p))
     go p a b = (omega (arith, a), omega (arith, b))

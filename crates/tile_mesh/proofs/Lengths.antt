@@ -2,7 +2,7 @@
 use Rattle.std.proofs.Common.{◌≡◌, ℕ, zero, suc, ◌+◌, ◌*◌, ◌≤◌, arith, Bool, true, false, List, [], ◌∷◌, ◌++◌, map, length, nat_le, refl}
 use Rattle.std.specs.Prelude.{ℤ, if◌then◌else◌}
 use Rattle.std.proofs.lemmas.List.{length-map}
-use Rattle.mesh_plane.specs.Triangles.{Triple, Step, Outer, Inner, strip, fan}
+use Rattle.mesh_plane.specs.Triangles.{Step, Outer, Inner, strip, fan}
 use Rattle.mesh_plane.specs.Quadtree.{Midpoints, line_of, midpoint, leaf, leaf_ring, leaves}
 use Rattle.mesh_plane.specs.Fan.{round}
 use Rattle.quad_split.specs.Midpoints.{midpoints_of}

@@ -2,7 +2,7 @@
 use Rattle.std.proofs.Common.{◌≡◌, ℕ, ◌<◌, ◌≤◌, arith, Bool, true, false, cond, List, [], ◌∷◌, map, nat_le, refl, ap, ◌∙◌}
 use Rattle.std.specs.Prelude.{AllPairs}
 use Rattle.std.specs.List.{AllByRecursion}
-use Rattle.std.proofs.lemmas.Bool.Decides.{nat_tests}
+use Rattle.std.proofs.lemmas.Bool.{leb-true, leb-false}
 use Rattle.mesh_plane.specs.Triangles.{Step, Outer, Inner}
 use Rattle.mesh_plane.proofs.StripHeights.{outers, inners}
 use Rattle.mesh_plane.proofs.ListWords.{all_from, all_to, pairs_none, pairs_cons, pairs_head, pairs_tail}
@@ -51,12 +51,6 @@ inner_pairs : (ys : List ℕ) → Pairs (λ i j. i < j) ys → Pairs ComesBefore
 inner_pairs [] h = tt
 inner_pairs (y ∷ ys) h = (inner_each (ComesBefore (Inner y)) ys h.0, inner_pairs ys h.1)
 
-pub le_is : (a b : ℕ) → nat_le a b ≡ true → a ≤ b
-le_is a b h = grind (arith, nat_tests)
-
-pub gt_is : (a b : ℕ) → nat_le a b ≡ false → b < a
-gt_is a b h = grind (arith, nat_tests)
-
 above : (a b : ℕ) (xs : List ℕ) → a < b → AllByRecursion (λ x. b < x) xs → AllByRecursion (λ x. a < x) xs
 above a b xs l h = all_map (λ x. b < x) (λ x. a < x) (λ x k. omega (arith, l, k)) xs h
 
@@ -72,10 +66,10 @@ after_pairs x xs h f (y ∷ ys) k = go (nat_le x y) refl (after_pairs x xs h f y
     go : (b : Bool) → nat_le x y ≡ b → Pairs ComesBefore (outer_after x (merge xs) ys)
         → Pairs ComesBefore (cond b (Outer x ∷ merge xs (y ∷ ys)) (Inner y ∷ outer_after x (merge xs) ys))
     go true e r =
-        let l = le_is x y e in
+        let l = leb-true x y e in
         (merge_each (ComesBefore (Outer x)) xs (y ∷ ys) h.0 (l, at_least x y ys l k.0), f (y ∷ ys) k)
     go false e r =
-        let l = gt_is x y e in
+        let l = leb-false x y e in
         (merge_each (ComesBefore (Inner y)) (x ∷ xs) ys (l, above y x xs l h.0) k.0, r)
 
 merge_pairs : (xs ys : List ℕ) → Pairs (λ i j. i < j) xs → Pairs (λ i j. i < j) ys → Pairs ComesBefore (merge xs ys)

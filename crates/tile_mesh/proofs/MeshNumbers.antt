@@ -27,10 +27,11 @@ use Rattle.tile_mesh.specs.Rule.{triangles_of}
 use Rattle.tile_mesh.specs.Sides.{grid_point}
 use Rattle.tile_mesh.proofs.Counts.{few}
 use Rattle.tile_mesh.proofs.EdgePoints.{corner_on_grid}
-use Rattle.tile_mesh.proofs.FirstUses.{point_itself, any_to, first_any, place_below, named_is, numbering_law, distinct_firsts}
+use Rattle.tile_mesh.proofs.FirstUses.{any_to, first_any, place_below, named_is, numbering_law, distinct_firsts}
 use Rattle.tile_mesh.proofs.Framing.{triangles_cover}
 use Rattle.tile_mesh.proofs.KeptLists.{kept_to_66}
 use Rattle.tile_mesh.proofs.Placing as placing
+use Rattle.tile_mesh.proofs.Steps.{point_itself}
 
 -- ---- places in a list
 first_place : (ps : List GridPoint) (k : ℕ) (d : GridPoint) → k < length ps

@@ -1,11 +1,11 @@
 -- Heights of triangles' planes that are near a height.
 use Rattle.std.proofs.Common.{◌≡◌, refl, ap, sym, ◌∙◌, arith, List, [], ◌∷◌, ◌++◌, inl, inr}
-use Rattle.std.specs.Prelude.{ℤ, pos, ◌+ℤ◌, ◌-ℤ◌, ◌*ℤ◌, ◌≤ℤ◌, ◌<ℤ◌, unsigned_abs}
+use Rattle.std.specs.Prelude.{ℤ, pos, ◌+ℤ◌, ◌-ℤ◌, ◌*ℤ◌, ◌≤ℤ◌, ◌<ℤ◌}
 use Rattle.std.specs.List.{AllByRecursion}
 use Rattle.std.proofs.lemmas.Int.{ints}
-use Rattle.polynomial.proofs.Expressions.{var, num, add, sub, mul}
+use Rattle.common_laws.proofs.Sizes.{near_of_size, size_of_near}
+use Rattle.polynomial.proofs.Expressions.{var, num, add, mul}
 use Rattle.polynomial.proofs.NormalForm.{by_ring}
-use Rattle.polynomial.proofs.Signs.{times_nonneg, factor_nonneg, weaken}
 use Rattle.mesh_plane.specs.Plane.{Point, point, doubled_area, side_of, TriangleHolds}
 use Rattle.mesh_plane.specs.Surface.{lift_of, gap_over, gap_under}
 use Rattle.mesh_plane.specs.Triangles.{Triple}
@@ -13,44 +13,13 @@ use Rattle.mesh_plane.proofs.Turns.{turn, side_scaled}
 use Rattle.mesh_plane.proofs.Tilings.{area, Within, Held, IsCcw}
 use Rattle.mesh_plane.proofs.Heights.{lift, OneLevel, Shown, Has, spread}
 use Rattle.mesh_plane.proofs.Scales.{corner_of, placed, scaled, area_scaled, holds_in, holds_out}
-
--- l/m is within t of h
-pub record IsNear (t h m l : ℤ) : Type 0 where
-  pub above : (l -ℤ h *ℤ m) ≤ℤ (t *ℤ m)
-  pub below : (h *ℤ m -ℤ l) ≤ℤ (t *ℤ m)
-
-pub near_of_size : (z t : ℤ) → pos (unsigned_abs z) ≤ℤ t → (z ≤ℤ t) × ((pos 0 -ℤ z) ≤ℤ t)
-near_of_size z t h = (grind (arith, ints), grind (arith, ints))
-
-pub size_of_near : (z t : ℤ) → z ≤ℤ t → (pos 0 -ℤ z) ≤ℤ t → pos (unsigned_abs z) ≤ℤ t
-size_of_near z t h k = grind (arith, ints)
+use Rattle.mesh_plane.proofs.SurfaceLaws.{IsNear, near_moved}
 
 pub near_itself : (t h : ℤ) → pos 0 ≤ℤ t → IsNear t h (pos 1) h
 near_itself t h p = record {
   above = omega (arith, ints, p);
   below = omega (arith, ints, p);
 }
-
--- one fraction by another that is equal: l/m = x/d
-pub near_moved : (t h m l d x : ℤ) → pos 0 <ℤ m → pos 0 <ℤ d → x *ℤ m ≡ l *ℤ d → IsNear t h m l → IsNear t h d x
-near_moved t h m l d x hm hd e n =
-    let a : pos 0 ≤ℤ (d *ℤ (t *ℤ m -ℤ (l -ℤ h *ℤ m))) = times_nonneg d (t *ℤ m -ℤ (l -ℤ h *ℤ m)) (weaken hd) (omega (arith, ints, n.above)) in
-    let b : pos 0 ≤ℤ (d *ℤ (t *ℤ m -ℤ (h *ℤ m -ℤ l))) = times_nonneg d (t *ℤ m -ℤ (h *ℤ m -ℤ l)) (weaken hd) (omega (arith, ints, n.below)) in
-    let p : d *ℤ (t *ℤ m -ℤ (l -ℤ h *ℤ m)) ≡ m *ℤ (t *ℤ d +ℤ h *ℤ d) -ℤ l *ℤ d =
-    by_ring (mul (var 0) (sub (mul (var 1) (var 2)) (sub (var 3) (mul (var 4) (var 2)))))
-    (sub (mul (var 2) (add (mul (var 1) (var 0)) (mul (var 4) (var 0)))) (mul (var 3) (var 0))) (d ∷ t ∷ m ∷ l ∷ h ∷ []) refl in
-    let q : m *ℤ (t *ℤ d -ℤ (x -ℤ h *ℤ d)) ≡ m *ℤ (t *ℤ d +ℤ h *ℤ d) -ℤ x *ℤ m =
-    by_ring (mul (var 2) (sub (mul (var 1) (var 0)) (sub (var 3) (mul (var 4) (var 0)))))
-    (sub (mul (var 2) (add (mul (var 1) (var 0)) (mul (var 4) (var 0)))) (mul (var 3) (var 2))) (d ∷ t ∷ m ∷ x ∷ h ∷ []) refl in
-    let r : d *ℤ (t *ℤ m -ℤ (h *ℤ m -ℤ l)) ≡ m *ℤ (t *ℤ d -ℤ h *ℤ d) +ℤ l *ℤ d =
-    by_ring (mul (var 0) (sub (mul (var 1) (var 2)) (sub (mul (var 4) (var 2)) (var 3))))
-    (add (mul (var 2) (sub (mul (var 1) (var 0)) (mul (var 4) (var 0)))) (mul (var 3) (var 0))) (d ∷ t ∷ m ∷ l ∷ h ∷ []) refl in
-    let s : m *ℤ (t *ℤ d -ℤ (h *ℤ d -ℤ x)) ≡ m *ℤ (t *ℤ d -ℤ h *ℤ d) +ℤ x *ℤ m =
-    by_ring (mul (var 2) (sub (mul (var 1) (var 0)) (sub (mul (var 4) (var 0)) (var 3))))
-    (add (mul (var 2) (sub (mul (var 1) (var 0)) (mul (var 4) (var 0)))) (mul (var 3) (var 2))) (d ∷ t ∷ m ∷ x ∷ h ∷ []) refl in
-    let u : pos 0 ≤ℤ (t *ℤ d -ℤ (x -ℤ h *ℤ d)) = factor_nonneg m (t *ℤ d -ℤ (x -ℤ h *ℤ d)) hm (omega (arith, ints, a, p, q, e)) in
-    let v : pos 0 ≤ℤ (t *ℤ d -ℤ (h *ℤ d -ℤ x)) = factor_nonneg m (t *ℤ d -ℤ (h *ℤ d -ℤ x)) hm (omega (arith, ints, b, r, s, e)) in
-    record { above = omega (arith, ints, u); below = omega (arith, ints, v) }
 
 module _ {A : Type 0} (at : A → Point) (z : A → ℤ) (p : Point) (t h : ℤ) where
   -- some triangle holds the point and has a height there that is near

@@ -1,18 +1,12 @@
 -- A node whose child is split is split.
-use Rattle.std.proofs.Common.{◌≡◌, ℕ, zero, suc, ◌+◌, ◌-◌, ◌*◌, ◌/◌, ◌^◌, ◌<◌, ◌≤◌, arith, Bool, true, false, not, ◌&&◌, ◌||◌, List, refl, ap, sym, ◌∙◌, inl, inr}
+use Rattle.std.proofs.Common.{◌≡◌, ℕ, zero, suc, ◌+◌, ◌-◌, ◌*◌, ◌/◌, ◌^◌, ◌<◌, ◌≤◌, arith, Bool, true, not, ◌&&◌, ◌||◌, List, ap, sym, ◌∙◌, inl, inr}
 use Rattle.std.specs.Prelude.{ℤ, ◌⊎◌}
+use Rattle.std.proofs.lemmas.Bool.{or_right, or_left}
 use Rattle.quad_split.specs.Node.{is_node}
 use Rattle.quad_split.specs.Fits.{fits_at}
 use Rattle.quad_split.specs.Split.{touching, is_split}
 use Rattle.quad_split.proofs.Nodes.{node_x, node_y, is_node_yes}
-
-or_second : (a b : Bool) → b ≡ true → (a || b) ≡ true
-or_second true b e = refl
-or_second false b e = e
-
-or_first : (a b : Bool) → a ≡ true → (a || b) ≡ true
-or_first true b e = refl
-or_first false b e = absurd (let z = e in cc)
+use Rattle.quad_split.proofs.Nearby.{split_is_node}
 
 pub halves_of : (x : ℕ) → (x ≡ 2 * (x / 2)) ⊎ (x ≡ 2 * (x / 2) + 1)
 halves_of x = go (x - 2 * (x / 2)) (omega arith) (omega arith)
@@ -35,24 +29,16 @@ half_place (suc (suc (suc (suc (suc (suc k)))))) x h l = absurd (omega (arith, h
 touched : (f : ℕ → ℕ → Bool) (x y u v : ℕ) → f u v ≡ true → (u ≡ 2 * x) ⊎ (u ≡ 2 * x + 1) → (v ≡ 2 * y) ⊎ (v ≡ 2 * y + 1)
     → touching f x y ≡ true
 touched f x y u v e (inl a) (inl b) =
-    or_first (f (2 * x) (2 * y)) _ (ap (λ (i : ℕ). f i (2 * y)) (sym a) ∙ ap (f u) (sym b) ∙ e)
+    or_left (f (2 * x) (2 * y)) _ (ap (λ (i : ℕ). f i (2 * y)) (sym a) ∙ ap (f u) (sym b) ∙ e)
 touched f x y u v e (inr a) (inl b) =
-    or_second (f (2 * x) (2 * y)) _
-    (or_first (f (2 * x + 1) (2 * y)) _ (ap (λ (i : ℕ). f i (2 * y)) (sym a) ∙ ap (f u) (sym b) ∙ e))
+    or_right (f (2 * x) (2 * y)) _
+    (or_left (f (2 * x + 1) (2 * y)) _ (ap (λ (i : ℕ). f i (2 * y)) (sym a) ∙ ap (f u) (sym b) ∙ e))
 touched f x y u v e (inl a) (inr b) =
-    or_second (f (2 * x) (2 * y)) _ (or_second (f (2 * x + 1) (2 * y)) _
-    (or_first (f (2 * x) (2 * y + 1)) _ (ap (λ (i : ℕ). f i (2 * y + 1)) (sym a) ∙ ap (f u) (sym b) ∙ e)))
+    or_right (f (2 * x) (2 * y)) _ (or_right (f (2 * x + 1) (2 * y)) _
+    (or_left (f (2 * x) (2 * y + 1)) _ (ap (λ (i : ℕ). f i (2 * y + 1)) (sym a) ∙ ap (f u) (sym b) ∙ e)))
 touched f x y u v e (inr a) (inr b) =
-    or_second (f (2 * x) (2 * y)) _ (or_second (f (2 * x + 1) (2 * y)) _ (or_second (f (2 * x) (2 * y + 1)) _
-    (or_first (f (2 * x + 1) (2 * y + 1)) _ (ap (λ (i : ℕ). f i (2 * y + 1)) (sym a) ∙ ap (f u) (sym b) ∙ e))))
-
-pub split_is_node : (grid : List ℤ) (tol k x y : ℕ) → is_split grid tol k x y ≡ true → is_node k x y ≡ true
-split_is_node grid tol zero x y e = absurd (let z = e in cc)
-split_is_node grid tol (suc k) x y e = go (is_node (suc k) x y) _ e
-  where
-    go : (a b : Bool) → (a && b) ≡ true → a ≡ true
-    go true b h = refl
-    go false b h = absurd (let z = h in cc)
+    or_right (f (2 * x) (2 * y)) _ (or_right (f (2 * x + 1) (2 * y)) _ (or_right (f (2 * x) (2 * y + 1)) _
+    (or_left (f (2 * x + 1) (2 * y + 1)) _ (ap (λ (i : ℕ). f i (2 * y + 1)) (sym a) ∙ ap (f u) (sym b) ∙ e))))
 
 pub parent_split : (grid : List ℤ) (tol k x y : ℕ) → is_split grid tol k x y ≡ true → suc k ≤ 6
     → is_split grid tol (suc k) (x / 2) (y / 2) ≡ true
@@ -62,4 +48,4 @@ parent_split grid tol k x y e l =
     is_node_yes (suc k) (x / 2) (y / 2) (half_place k x l (node_x k x y n)) (half_place k y l (node_y k x y n)) in
     let touch = touched (is_split grid tol k) (x / 2) (y / 2) x y e (halves_of x) (halves_of y) in
     ap (λ (b : Bool). b && (not (fits_at grid tol (suc k) (x / 2) (y / 2)) || touching (is_split grid tol k) (x / 2) (y / 2))) node
-    ∙ or_second (not (fits_at grid tol (suc k) (x / 2) (y / 2))) (touching (is_split grid tol k) (x / 2) (y / 2)) touch
+    ∙ or_right (not (fits_at grid tol (suc k) (x / 2) (y / 2))) (touching (is_split grid tol k) (x / 2) (y / 2)) touch

@@ -1,5 +1,5 @@
 -- A table of the places of points, as a point comes last among them.
-use Rattle.std.proofs.Common.{◌≡◌, ℕ, ◌+◌, ◌-◌, ◌*◌, ◌<◌, ◌≤◌, arith, Bool, true, false, cond, ◌&&◌, ◌||◌, List, [], ◌∷◌, ◌++◌, length, length-set, set, take, replicate, nat_eq, refl, ap, sym, ◌∙◌, subst, Option, Some, None}
+use Rattle.std.proofs.Common.{◌≡◌, ℕ, ◌+◌, ◌-◌, ◌*◌, ◌<◌, ◌≤◌, arith, Bool, true, false, ◌&&◌, ◌||◌, List, [], ◌∷◌, ◌++◌, length, length-set, set, take, replicate, nat_eq, refl, ap, sym, ◌∙◌, subst, Option, Some, None}
 use Rattle.std.specs.Prelude.{nat_lt, slice_index_or, position}
 use Rattle.std.specs.Cmp.{IsEquivalence}
 use Rattle.std.specs.List.{position_or_len, list_any, IsDistinct}
@@ -10,19 +10,19 @@ use Rattle.terrain_base.specs.Grid.{spot}
 use Rattle.tile_mesh.specs.declared.point.GridPoint.{GridPoint}
 use Rattle.tile_mesh.specs.Numbers.{point_eq, IsOnGrid, AreOnGrid, ArePlaces, with_point}
 use Rattle.tile_mesh.proofs.Counts.{small_last}
-use Rattle.tile_mesh.proofs.Steps.{found_stays, goes_last, found_left, found_last}
-use Rattle.tile_mesh.proofs.FirstUses.{points_equal, point_itself, place_below, place_of, any_push}
+use Rattle.tile_mesh.proofs.Steps.{found_stays, goes_last, found_left, found_last, point_itself}
+use Rattle.tile_mesh.proofs.FirstUses.{points_equal, place_below, place_of, any_push}
 
 -- ---- where a point is
-position_found : (p : GridPoint) (ks : List GridPoint) → list_any (point_eq p) ks ≡ true → position (point_eq p) ks ≡ Some (position_or_len (point_eq p) ks)
+pub position_found : (p : GridPoint) (ks : List GridPoint) → list_any (point_eq p) ks ≡ true → position (point_eq p) ks ≡ Some (position_or_len (point_eq p) ks)
 position_found p ks h =
     let below = place_below p ks h in
     let test : nat_lt (position_or_len (point_eq p) ks) (length ks) ≡ true = grind (arith, nat_tests) in rw test
 
-place_past : (p : GridPoint) (ks : List GridPoint) → list_any (point_eq p) ks ≡ false → position_or_len (point_eq p) ks ≡ length ks
+pub place_past : (p : GridPoint) (ks : List GridPoint) → list_any (point_eq p) ks ≡ false → position_or_len (point_eq p) ks ≡ length ks
 place_past p ks h = sym (goes_last p ks [] h) ∙ place_of p ks [] h
 
-position_missing : (p : GridPoint) (ks : List GridPoint) → list_any (point_eq p) ks ≡ false → position (point_eq p) ks ≡ None
+pub position_missing : (p : GridPoint) (ks : List GridPoint) → list_any (point_eq p) ks ≡ false → position (point_eq p) ks ≡ None
 position_missing p ks h =
     let past = place_past p ks h in
     let test : nat_lt (position_or_len (point_eq p) ks) (length ks) ≡ false = grind (arith, nat_tests) in rw test

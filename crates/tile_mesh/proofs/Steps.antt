@@ -1,7 +1,7 @@
 -- The points as they grow, against the firsts of all.
-use Rattle.std.proofs.Common.{◌≡◌, ℕ, ◌+◌, true, false, not, cond, ◌||◌, List, [], ◌∷◌, ◌++◌, nat_eq, map, refl, ap, sym, ◌∙◌, append_assoc, append-nil, arith}
-use Rattle.std.proofs.lemmas.Bool.Decides.{nat_tests}
+use Rattle.std.proofs.Common.{◌≡◌, ℕ, ◌+◌, true, false, not, cond, ◌||◌, List, [], ◌∷◌, ◌++◌, map, refl, ap, sym, ◌∙◌, append_assoc, append-nil}
 use Rattle.std.specs.List.{position_or_len, list_any}
+use Rattle.common_laws.proofs.Orders.{equal_itself}
 use Rattle.tile_mesh.specs.declared.point.GridPoint.{GridPoint}
 use Rattle.terrain_base.specs.declared.indexes.Indexes.{Indexes}
 use Rattle.mesh_plane.specs.Triangles.{Triple}
@@ -14,11 +14,8 @@ keys_after (p ∷ ps) keys = (elim (list_any (point_eq p) keys) as (λ b. list_a
   | false ↦ λ e. keys_after ps (keys ++ p ∷ []) ∙ append_assoc keys (p ∷ []) (first_uses (keys ++ p ∷ []) ps)
 ]) refl
 
-same_number : (n : ℕ) → nat_eq n n ≡ true
-same_number n = grind (arith, nat_tests)
-
-same_self : (p : GridPoint) → point_eq p p ≡ true
-same_self p = rw (same_number p.i, same_number p.j)
+pub point_itself : (p : GridPoint) → point_eq p p ≡ true
+point_itself p = rw (equal_itself p.i, equal_itself p.j)
 
 -- a place that is found stays where more follows
 pub found_stays : (p : GridPoint) (ks more : List GridPoint) → list_any (point_eq p) ks ≡ true → position_or_len (point_eq p) (ks ++ more) ≡ position_or_len (point_eq p) ks
@@ -30,7 +27,7 @@ found_stays p (k ∷ ks) more h = (elim (point_eq p k) as (λ b. (b || list_any 
 
 -- a point that is not found goes last, and is found there
 pub goes_last : (p : GridPoint) (ks more : List GridPoint) → list_any (point_eq p) ks ≡ false → position_or_len (point_eq p) (ks ++ p ∷ more) ≡ position_or_len (point_eq p) ks
-goes_last p [] more h = rw (same_self p)
+goes_last p [] more h = rw (point_itself p)
 goes_last p (k ∷ ks) more h = (elim (point_eq p k) as (λ b. (b || list_any (point_eq p) ks) ≡ false → cond (not b) ((1 + position_or_len (point_eq p) (ks ++ p ∷ more))) 0 ≡ cond (not b) ((1 + position_or_len (point_eq p) ks)) 0) [
   | true ↦ λ e. refl
   | false ↦ λ e. ap (λ n. 1 + n) (goes_last p ks more e)
@@ -44,7 +41,7 @@ found_left p (k ∷ ks) more h = (elim (point_eq p k) as (λ b. (b || list_any (
 ]) h
 
 pub found_last : (p : GridPoint) (ks : List GridPoint) → list_any (point_eq p) (ks ++ p ∷ []) ≡ true
-found_last p [] = rw (same_self p)
+found_last p [] = rw (point_itself p)
 found_last p (k ∷ ks) = (elim (point_eq p k) as (λ b. (b || list_any (point_eq p) (ks ++ p ∷ [])) ≡ true) [ true ↦ refl | false ↦ found_last p ks ])
 
 -- a point that was put is found

@@ -26,11 +26,11 @@ at_spot : (grid : List ℤ) (p : MeshPoint) → IsGrid grid → IsVertexOnGrid p
 at_spot grid p h g e =
     subst (λ (n : ℤ). IsHeight n) (sym e) (h.heights (spot p.i p.j) (omega (arith, g.column, g.row)))
 
-in_range_of : (grid : List ℤ) (z : ℕ) → IsGrid grid → All (λ p. IsHeight p.metres) (mesh_of_grid grid z).points
-in_range_of grid z h k d l =
+pub grid_heights_in_range : (grid : List ℤ) (z : ℕ) → IsGrid grid → All (λ p. IsHeight p.metres) (mesh_of_grid grid z).points
+grid_heights_in_range grid z h k d l =
     let p = slice_index_or (mesh_of_grid grid z).points k d in
     at_spot grid p h ((numbered_law grid z).on_grid k d l) (vertex_heights grid z k d l)
 
 pub heights_in_range : HeightRangeLaw
 heights_in_range z mesh is =
-    subst (λ (m : Mesh). All (λ p. IsHeight p.metres) m.points) (sym is.mesh) (in_range_of is.grid z is.in_range)
+    subst (λ (m : Mesh). All (λ p. IsHeight p.metres) m.points) (sym is.mesh) (grid_heights_in_range is.grid z is.in_range)

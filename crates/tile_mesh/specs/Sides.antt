@@ -1,6 +1,5 @@
 -- The edges of a tile, and the lines beside them that bound the square of its quadtree.
 use Rattle.std.specs.Prelude.{ℕ}
-use Rattle.mesh_plane.specs.Triangles as plane
 use Rattle.mesh_plane.specs.Triangles.{Step, Outer, Inner}
 use Rattle.terrain_base.specs.declared.side.Side.{Side}
 use Rattle.terrain_base.specs.declared.side.Side.TheVariants.{West, South, East, North}
