@@ -1,22 +1,13 @@
 -- What is told of the manifest that a store holds.
-use Rattle.std.proofs.Common.{◌≡◌, ℕ, List, Option, Some, Result, Ok, Err, subst}
-use Rattle.std.specs.Prelude.{IfErr, IfSome, IsSomeAnd}
+use Rattle.std.proofs.Common.{◌≡◌, ℕ, List, Some, subst}
+use Rattle.std.specs.Prelude.{IsSomeAnd}
 use Rattle.std.specs.FinMap.{get}
-use Rattle.terrain_base.specs.declared.name.Key.{Key}
 use Rattle.terrain_base.specs.declared.name.Key.TheVariants.{Manifest}
 use Rattle.terrain_base.specs.Step.{Files}
 use Rattle.database.specs.Opening.{IsOld, RefusedAt}
 use Rattle.database.specs.declared.answer.EngineAnswer.{EngineAnswer}
 use Rattle.database.specs.declared.answer.EngineAnswer.TheVariants as answer
 use Rattle.db_reading.specs.ReadManifest.{IsNoManifest, IsRefusedAs}
-
--- what a get found, where the store tells its files
-pub found_is : (held : Option Files) (found : Option (List ℕ)) (name : Key) (files : Files) → held ≡ Some files → IfSome held (λ fs. found ≡ get fs name) → found ≡ get files name
-found_is held found name files is said = subst (λ o. IfSome o (λ fs. found ≡ get fs name)) is said
-
-pub map_err : {T E : Type 0} (result : Result T E) (P Q : E → Type 0) → ((e : E) → P e → Q e) → IfErr result P → IfErr result Q
-map_err (Ok value) P Q f p = tt
-map_err (Err e) P Q f p = f e p
 
 -- the bytes that are refused are those that are held
 pub held_refused : (files : Files) (bytes : List ℕ) (a : EngineAnswer) → Some bytes ≡ get files Manifest → IsRefusedAs bytes a → IsNoManifest files a

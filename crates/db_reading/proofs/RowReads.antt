@@ -1,6 +1,6 @@
 -- What the reading of a database finds.
 use Rattle.std.proofs.Common.{◌≡◌, ℕ, ◌+◌, ◌<◌, ◌≤◌, ◌++◌, List, [], ◌∷◌, length, take, get_or, Some, refl, sym, ap, subst, ◌∙◌, ◌⊎◌, ⊎_elim, arith}
-use Rattle.std.specs.Prelude.{slice_get, IfErr, IsErrAnd, Result, Ok, Err}
+use Rattle.std.specs.Prelude.{slice_get}
 use Rattle.std.specs.FinMap.{keys}
 use Rattle.std.specs.List.Sorted.{IsStrictlySortedBy}
 use Rattle.std.proofs.lemmas.List.{take_more, take_all, map-append, length-map}
@@ -26,11 +26,6 @@ use Rattle.db_reading.specs.declared.reading.Reading.{Reading}
 use Rattle.db_reading.specs.Found.{Found, IsToldBy}
 use Rattle.db_reading.specs.ReadManifest.{IsManifestOf, IsNoManifest}
 use Rattle.db_reading.specs.ReadRow.{IsRead, IsRowTrouble, AreRead, IsFirstRow, IsRowsTrouble}
-
--- an answer passed on by a `?` keeps what holds of it
-pub err_is : {T E : Type 0} (result : Result T E) (fault : E) (P : E → Type 0) → IsErrAnd result (λ e. e ≡ fault) → P fault → IfErr result P
-err_is (Ok value) fault P is p = tt
-err_is (Err e) fault P is p = subst P (sym is) p
 
 -- ---- row by row
 

@@ -1,12 +1,13 @@
 use Rattle.std.proofs.Common.{◌∙◌, subst, sym, ap, arith, ◌+◌, [], ◌∷◌}
+use Rattle.common_laws.proofs.Options.{if_err_is}
 use Rattle.database.specs.Cells.{row_keys}
 use Rattle.db_reading.specs.ReadRow.{AreRead}
-use Rattle.db_reading.proofs.RowReads.{err_is, one_more, key_more, stop_at_row}
+use Rattle.db_reading.proofs.RowReads.{one_more, key_more, stop_at_row}
 use Rattle.db_reading.proofs.reading.read_rows.Goals as goal
 
 pub returns-in_err-cell-clause-first : goal.returns-in_err-cell-clause-first
 returns-in_err-cell-clause-first g c =
-    err_is c.from_residual.result _ _ c.from_residual.ensures.1 (λ files is.
+    if_err_is c.from_residual.result _ _ c.from_residual.ensures.1 (λ files is.
     stop_at_row files c.args.mark c.args.rows.now c.loop-key.key-index c.key-item.result _ _ c.loop-key-test.true c.key-item.is (c.loop-key.invariant.read files is) (c.in_err-cell.ensures.shown files (c.loop-key.invariant.same ∙ is)))
 
 pub loop-key-preserved : goal.loop-key-preserved
