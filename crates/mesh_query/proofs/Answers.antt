@@ -1,6 +1,7 @@
 -- Bytes have one cause of refusal at most.
-use Rattle.std.proofs.Common.{◌≡◌, ◌⊎◌, inl, inr, ℕ, ◌<◌, refl, sym, subst, ap, arith, List}
+use Rattle.std.proofs.Common.{◌≡◌, ◌⊎◌, inl, inr, ℕ, refl, sym, subst, ap, List}
 use Rattle.std.specs.Prelude.{All}
+use Rattle.common_laws.proofs.Orders.{same_from_neither_below}
 use Rattle.mesh_codec.specs.declared.codes.Codes.{Codes}
 use Rattle.mesh_codec.specs.Tile.{header_in, vertex_list, mesh_in}
 use Rattle.mesh_check.specs.declared.verdict.Finding.{Finding}
@@ -22,12 +23,9 @@ no_codes = record { u = 0; v = 0; height = 0 }
 not_both : (bytes : List ℕ) (k : ℕ) → All (IsWhole (header_in bytes)) (vertex_list bytes) → IsFirstNotWhole bytes k → ⊥
 not_both bytes k a h = h.not_whole no_codes (a k no_codes h.in_list)
 
-same_number : (j k : ℕ) → (j < k → ⊥) → (k < j → ⊥) → j ≡ k
-same_number j k f g = grind (arith, f, g)
-
 one_number : (bytes : List ℕ) (j k : ℕ) → IsFirstNotWhole bytes j → IsFirstNotWhole bytes k → j ≡ k
 one_number bytes j k h i =
-    same_number j k (λ l. h.not_whole no_codes (i.first j no_codes l)) (λ l. i.not_whole no_codes (h.first k no_codes l))
+    same_from_neither_below j k (λ l. h.not_whole no_codes (i.first j no_codes l)) (λ l. i.not_whole no_codes (h.first k no_codes l))
 
 one_finding : (bytes : List ℕ) (f g : Finding) → IsVerdict (mesh_in bytes) (Found f) → IsVerdict (mesh_in bytes) (Found g)
     → Found g ≡ Found f

@@ -3,6 +3,7 @@ use Rattle.std.proofs.Common.{◌≡◌, ℕ, ◌*◌, ◌^◌, ◌<◌, ◌≤�
 use Rattle.std.specs.Prelude.{ℤ, pos, ◌-ℤ◌, ◌*ℤ◌, ◌≤ℤ◌, ◌<ℤ◌, ◌⊎◌, Any, unsigned_abs}
 use Rattle.std.specs.List.{AllByRecursion}
 use Rattle.std.proofs.lemmas.Int.{ints, by_lt_z, unsigned_abs-mul}
+use Rattle.common_laws.proofs.Sizes.{size_positive}
 use Rattle.polynomial.proofs.Expressions.{var, num, add, sub, mul}
 use Rattle.polynomial.proofs.NormalForm.{by_ring}
 use Rattle.polynomial.proofs.Signs.{times_nonneg, times_pos, factor_pos, factor_nonneg, weaken}
@@ -64,9 +65,6 @@ below_same a b c d ha hb hc hd e f h =
 size_le : (x y : ℤ) → pos 0 ≤ℤ x → x ≤ℤ y → unsigned_abs x ≤ unsigned_abs y
 size_le x y h k = omega (arith, ints)
 
-size_pos : (x : ℤ) → pos 0 <ℤ x → 0 < unsigned_abs x
-size_pos x h = omega (arith, ints)
-
 -- a lesser rank is a lesser fraction
 pub rank_below : (r s : Ranked) → IsRanked r → IsRanked s → r.rank < s.rank
     → IsBelow (ratio r.crossing.over r.crossing.under) (ratio s.crossing.over s.crossing.under)
@@ -82,7 +80,7 @@ rank_below r s hr hs l =
       unsigned_abs-mul c b,
     ) in
     let m = rank_at_most (unsigned_abs a) (unsigned_abs b) (unsigned_abs c) (unsigned_abs d) (2 ^ 62)
-    (size_pos b hs.on_way.above_zero) (size_pos d hr.on_way.above_zero) n in
+    (size_positive b hs.on_way.above_zero) (size_positive d hr.on_way.above_zero) n in
     absurd (not_below r.rank s.rank (rank_of r.crossing) (rank_of s.crossing) l hr.is hs.is m))
   where
     not_below : (i j k m : ℕ) → i < j → i ≡ k → j ≡ m → m ≤ k → ⊥

@@ -6,6 +6,7 @@ use Rattle.std.specs.List.Sorted.{IsPermutation}
 use Rattle.std.proofs.lemmas.Int.{ints, by_lt_z, unsigned_abs-mul}
 use Rattle.std.proofs.lemmas.Nat.{mul-le}
 use Rattle.std.proofs.lemmas.List.Sorted.{Contains-permutation}
+use Rattle.common_laws.proofs.Sizes.{size_positive}
 use Rattle.polynomial.proofs.Signs.{times_nonneg, weaken}
 use Rattle.mesh_plane.proofs.ListWords.{any_here, any_there, any_none, any_cases}
 use Rattle.mesh_query.specs.declared.rank.Ranked.{Ranked}
@@ -18,9 +19,6 @@ use Rattle.mesh_query.proofs.Listings.{same_trans}
 
 size_lt : (x y : ℤ) → pos 0 ≤ℤ x → x <ℤ y → unsigned_abs x < unsigned_abs y
 size_lt x y h k = omega (arith, ints)
-
-size_pos : (x : ℤ) → pos 0 <ℤ x → 0 < unsigned_abs x
-size_pos x h = omega (arith, ints)
 
 size_small : (x : ℤ) → pos 0 <ℤ x → x ≤ℤ pos 2147352578 → unsigned_abs x ≤ 2147352578
 size_small x h k = omega (arith, ints)
@@ -45,7 +43,7 @@ rank_above r s hr hs h =
     ) in
     ranks_less r.rank s.rank (rank_of r.crossing) (rank_of s.crossing) hr.is hs.is
     (rank_less (unsigned_abs a) (unsigned_abs b) (unsigned_abs c) (unsigned_abs d) (2 ^ 62)
-    (size_pos b hr.on_way.above_zero) (size_pos d hs.on_way.above_zero)
+    (size_positive b hr.on_way.above_zero) (size_positive d hs.on_way.above_zero)
     (small_product (unsigned_abs b) (unsigned_abs d)
     (size_small b hr.on_way.above_zero hr.on_way.under_size) (size_small d hs.on_way.above_zero hs.on_way.under_size)) n)
 
