@@ -3,6 +3,7 @@ use Rattle.std.proofs.Common.{◌≡◌, ℕ, ◌-◌, ◌*◌, ◌%◌, ◌<◌
 use Rattle.std.proofs.Common.{sym}
 use Rattle.std.proofs.lemmas.Bool.Decides.{nat_tests}
 use Rattle.std.specs.Prelude.{if◌then◌else◌, ◌==◌, nat_le}
+use Rattle.std.proofs.lemmas.Bool.{lt-leb}
 use Rattle.whole_interval.specs.declared.interval.Interval.{Interval}
 use Rattle.whole_interval.specs.declared.sine_cosine.SineCosine.{SineCosine}
 use Rattle.whole_interval.specs.Interval.{add_of, sub_of, negated_of}
@@ -26,9 +27,6 @@ apart m n e = grind (arith, nat_tests)
 at_most : (m n : ℕ) → m ≤ n → nat_le m n ≡ true
 at_most m n e = grind (arith, nat_tests)
 
-above : (m n : ℕ) → n < m → nat_le m n ≡ false
-above m n e = grind (arith, nat_tests)
-
 pub alternated_even : (sum term : Interval) (j : ℕ) → j % 2 ≡ 0 → sub_of sum term ≡ alternated_of sum term j
 unfolding alternated_of
 alternated_even sum term j e = sym (if_true (j % 2 == 0) _ _ (same (j % 2) 0 e))
@@ -44,7 +42,7 @@ quarter_sine_near r d h = sym (if_true (nat_le (2 * r) d) _ _ (at_most (2 * r) d
 
 pub quarter_sine_far : (r d : ℕ) → d < 2 * r → octant_cosine_of (d - r) d ≡ quarter_sine_of r d
 unfolding quarter_sine_of
-quarter_sine_far r d h = sym (if_false (nat_le (2 * r) d) _ _ (above (2 * r) d h))
+quarter_sine_far r d h = sym (if_false (nat_le (2 * r) d) _ _ (lt-leb (2 * r) d h))
 
 pub quarter_cosine_near : (r d : ℕ) → 2 * r ≤ d → octant_cosine_of r d ≡ quarter_cosine_of r d
 unfolding quarter_cosine_of
@@ -52,7 +50,7 @@ quarter_cosine_near r d h = sym (if_true (nat_le (2 * r) d) _ _ (at_most (2 * r)
 
 pub quarter_cosine_far : (r d : ℕ) → d < 2 * r → octant_sine_of (d - r) d ≡ quarter_cosine_of r d
 unfolding quarter_cosine_of
-quarter_cosine_far r d h = sym (if_false (nat_le (2 * r) d) _ _ (above (2 * r) d h))
+quarter_cosine_far r d h = sym (if_false (nat_le (2 * r) d) _ _ (lt-leb (2 * r) d h))
 
 pub turned_none : (k : ℕ) (s c : Interval) → k ≡ 0
     → ◌≡◌ {A = SineCosine} (record { sine = s; cosine = c }) (turned_of k s c)

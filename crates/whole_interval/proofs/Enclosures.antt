@@ -2,12 +2,13 @@
 use Rattle.std.proofs.Common.{◌≡◌, ℕ, ◌+◌, ◌*◌, ◌^◌, ◌<◌, ◌≤◌, refl, ap, ◌∙◌, arith, Bool}
 use Rattle.std.proofs.Common.{true, false, FitsSigned}
 use mir.Syntax.{w128}
-use Rattle.std.proofs.lemmas.Int.{ints, clamps, fits_signed_mul}
+use Rattle.std.proofs.lemmas.Int.{ints, fits_signed_mul}
 use Rattle.std.proofs.lemmas.Bool.Decides.{nat_tests}
 use Rattle.std.proofs.Math.Nat.{mul-le-mul_right, mul-le-mul}
 use Rattle.std.specs.Prelude.{ℤ, pos, negsuc, ◌+ℤ◌, ◌-ℤ◌, ◌*ℤ◌, ◌≤ℤ◌, ◌<ℤ◌, neg_ℤ, int_lt, if◌then◌else◌}
 use Rattle.std.specs.Prelude.{unsigned_abs, ◌==◌}
 use Rattle.std.specs.Int.{int_min, int_max}
+use Rattle.common_laws.proofs.Extremes.{min_at_most_both, both_at_most_max}
 use Rattle.polynomial.proofs.Signs.{weaken}
 use Rattle.terrain_base.specs.Division.{IsRoot, floor_of, ceil_of, root_of}
 use Rattle.terrain_base.proofs.Quotients.{floor_is, ceil_is, root_is, root_le, neg_mul, mul_mono, mul_off}
@@ -64,21 +65,15 @@ sub_holds a b f g h k =
     let e = neg_mul g.numerator (pos f.denominator) in
     record { low = rw e at sum.low; high = rw e at sum.high }
 
-min_two : (p q : ℤ) → (int_min p q ≤ℤ p) × (int_min p q ≤ℤ q)
-min_two p q = omega (arith, ints, clamps)
-
-max_two : (p q : ℤ) → (p ≤ℤ int_max p q) × (q ≤ℤ int_max p q)
-max_two p q = omega (arith, ints, clamps)
-
 -- the least of four is at most each, and the greatest at least each
 pub least_below : (p q r s : ℤ)
     → (least_of p q r s ≤ℤ p) × (least_of p q r s ≤ℤ q) × (least_of p q r s ≤ℤ r) × (least_of p q r s ≤ℤ s)
-least_below p q r s = omega (arith, ints, min_two p q, min_two r s, min_two (int_min p q) (int_min r s))
+least_below p q r s = omega (arith, ints, min_at_most_both p q, min_at_most_both r s, min_at_most_both (int_min p q) (int_min r s))
 
 pub greatest_above : (p q r s : ℤ)
     → (p ≤ℤ greatest_of p q r s) × (q ≤ℤ greatest_of p q r s) × (r ≤ℤ greatest_of p q r s)
     × (s ≤ℤ greatest_of p q r s)
-greatest_above p q r s = omega (arith, ints, max_two p q, max_two r s, max_two (int_max p q) (int_max r s))
+greatest_above p q r s = omega (arith, ints, both_at_most_max p q, both_at_most_max r s, both_at_most_max (int_max p q) (int_max r s))
 
 pub mul_holds : (a b : Interval) (f g : Fraction) → IntervalHolds a f → IntervalHolds b g → IntervalHolds (mul_of a b) (times f g)
 unfolding mul_of

@@ -25,7 +25,7 @@ use Rattle.whole_interval.specs.Sine.{IsTurnedCosine, IsSine, IsCosine}
 use Rattle.whole_interval.proofs.Bounds.{le_trans_z, assoc, swapped}
 use Rattle.whole_interval.proofs.Enclosures.{holds_as, add_holds, sub_holds, negated_holds, mul_holds}
 use Rattle.whole_interval.proofs.Enclosures.{div_whole_holds}
-use Rattle.whole_interval.proofs.Sizes.{from_two}
+use Rattle.whole_interval.proofs.Sizes.{from_two, quotient_down}
 use Rattle.whole_interval.proofs.Branches.{turned_none, turned_once, turned_twice, turned_thrice}
 
 -- two fractions of equal parts
@@ -201,9 +201,6 @@ angle_high q y high t p z k x a b h g l =
     let two : (p * t) * x.denominator * k ≤ (q * x.denominator) * (y * z) =
     omega (arith, mul-le-mul_right (z * x.denominator) h, mul-le-mul_right (t * x.denominator) g) in
     mul_off (y * z) _ _ (positive_product y z a b) (le_trans_z one (omega (arith, ints, two)))
-
-quotient_down : (x y : ℕ) → 0 < y → x / y * y ≤ x
-quotient_down x y p = omega arith
 
 pub angle_holds : (t d : ℕ) (x : Fraction) → 0 < d → IsAngle t d x → IntervalHolds (angle_of t d) x
 unfolding angle_of

@@ -3,7 +3,7 @@ use Rattle.std.proofs.Common.{◌≡◌, ℕ, zero, suc, ◌+◌, ◌-◌, ◌*�
 use Rattle.std.proofs.Common.{arith, add-one, Bool, true, false}
 use Rattle.std.proofs.lemmas.Int.{ints, clamps, by_lt_z}
 use Rattle.std.proofs.lemmas.Grind.{div_ceil_times}
-use Rattle.std.proofs.Math.Nat.{mul-le-mul, le_of_mul-le-mul_right, pow-suc, pow-le-pow_right}
+use Rattle.std.proofs.Math.Nat.{mul-le-mul, le_of_mul-le-mul_right, pow-le-pow_right, pow-succ'}
 use Rattle.std.specs.Prelude.{ℤ, pos, negsuc, ◌+ℤ◌, ◌-ℤ◌, ◌*ℤ◌, ◌≤ℤ◌, ◌<ℤ◌, if◌then◌else◌, ◌==◌}
 use Rattle.std.specs.Int.{int_min, int_max, div_ceil}
 use Rattle.polynomial.proofs.Signs.{times_nonneg}
@@ -19,11 +19,8 @@ use Rattle.whole_interval.proofs.Bounds.{floor_from_nought}
 use Rattle.whole_interval.proofs.Enclosures.{same_ends, mul_ordered}
 use Rattle.whole_interval.proofs.Enclosures.{div_whole_ordered}
 
-twice : (k : ℕ) → 2 ^ suc k ≡ 2 * 2 ^ k
-twice k = omega (arith, pow-suc 2 k)
-
 -- a quotient rounded up is at most a whole number that is at least the quotient
-ceil_at_most : (a : ℤ) (n : ℕ) (q : ℤ) → 0 < n → a ≤ℤ (q *ℤ pos n) → ceil_of a (pos n) ≤ℤ q
+pub ceil_at_most : (a : ℤ) (n : ℕ) (q : ℤ) → 0 < n → a ≤ℤ (q *ℤ pos n) → ceil_of a (pos n) ≤ℤ q
 ceil_at_most a n q p h = let c = ceil_is a (pos n) (omega (arith, ints)) in by_lt_z q (ceil_of a (pos n))
     (λ less. absurd (omega (arith, ints, apart n q (ceil_of a (pos n)) less, c.low, h)))
     (λ fine. fine)
@@ -91,7 +88,7 @@ div_high : (k c : ℕ) (a : Interval) → 2 ≤ c → IsUpTo (suc k) a → (div_
 unfolding div_whole_of
 div_high k c a p h =
     let more : 2 ^ k * 2 ≤ 2 ^ k * c = mul-le-mul (omega arith) p in
-    ceil_at_most a.hi c (pos (2 ^ k)) (omega arith) (omega (arith, ints, h.high, more, twice k))
+    ceil_at_most a.hi c (pos (2 ^ k)) (omega arith) (omega (arith, ints, h.high, more, pow-succ' 2 k))
 
 pub div_up_to : (k c : ℕ) (a : Interval) → 2 ≤ c → IsUpTo (suc k) a → IsUpTo k (div_whole_of a c)
 div_up_to k c a p h = record {
@@ -131,18 +128,18 @@ sub_partial : (k : ℕ) (sum term : Interval) → IsPartial (suc k) sum → IsUp
     → IsPartial k (sub_of sum term)
 unfolding sub_of
 sub_partial k sum term h g = record {
-  low = omega (arith, ints, h.low, g.high, twice k);
+  low = omega (arith, ints, h.low, g.high, pow-succ' 2 k);
   ordered = omega (arith, ints, h.ordered, g.ordered);
-  high = omega (arith, ints, h.high, g.low, twice k);
+  high = omega (arith, ints, h.high, g.low, pow-succ' 2 k);
 }
 
 add_partial : (k : ℕ) (sum term : Interval) → IsPartial (suc k) sum → IsUpTo k term
     → IsPartial k (add_of sum term)
 unfolding add_of
 add_partial k sum term h g = record {
-  low = omega (arith, ints, h.low, g.low, twice k);
+  low = omega (arith, ints, h.low, g.low, pow-succ' 2 k);
   ordered = omega (arith, ints, h.ordered, g.ordered);
-  high = omega (arith, ints, h.high, g.high, twice k);
+  high = omega (arith, ints, h.high, g.high, pow-succ' 2 k);
 }
 
 alternated_by : (c : Bool) (k : ℕ) (sum term : Interval) → IsPartial (suc k) sum → IsUpTo k term
@@ -223,8 +220,8 @@ angle_high x m c y p h k = le_of_mul-le-mul_right (omega (arith, h, k)) p
 angle_ordered : (x z c q y : ℕ) → 0 < y → q * y ≤ x → x ≤ z → z ≤ c * y → q ≤ c
 angle_ordered x z c q y p h k l = le_of_mul-le-mul_right (omega (arith, h, k, l)) p
 
-angle_down : (x y : ℕ) → 0 < y → x / y * y ≤ x
-angle_down x y p = omega arith
+pub quotient_down : (x y : ℕ) → 0 < y → x / y * y ≤ x
+quotient_down x y p = omega arith
 
 pub angle_up_to : (t d : ℕ) → 0 < d → 2 * t ≤ d → IsUpTo 48 (angle_of t d)
 unfolding angle_of
@@ -235,7 +232,7 @@ angle_up_to t d p h =
     (omega arith) in
     let ordered = angle_ordered (pi_low * t) (pi_high * t) (div_ceil (pi_high * t) (2 * d))
     (pi_low * t / (2 * d)) (2 * d) y
-    (angle_down (pi_low * t) (2 * d) y) (omega arith) c.0 in
+    (quotient_down (pi_low * t) (2 * d) y) (omega arith) c.0 in
     record {
       low = omega (arith, ints);
       ordered = omega (arith, ints, ordered);
