@@ -44,7 +44,7 @@ up_high x n d h =
     let c = ceil_is x (pos (2 ^ 40)) (omega (arith, ints)) in
     omega (arith, ints, whole_high (pos (2 ^ 48)) (ceil_of x (pos (2 ^ 40))) x n d (2 ^ 40) c.high h)
 
-same_box : (a b c d e f : ℤ) (box : EcefBox) → a ≡ box.x_lo → b ≡ box.x_hi → c ≡ box.y_lo → d ≡ box.y_hi
+pub same_box : (a b c d e f : ℤ) (box : EcefBox) → a ≡ box.x_lo → b ≡ box.x_hi → c ≡ box.y_lo → d ≡ box.y_hi
     → e ≡ box.z_lo → f ≡ box.z_hi
     → ◌≡◌ {A = EcefBox} (record { x_lo = a; x_hi = b; y_lo = c; y_hi = d; z_lo = e; z_hi = f }) box
 same_box a b c d e f box p q r s t u = rw (p, q, r, s, t, u) refl

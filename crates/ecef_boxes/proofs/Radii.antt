@@ -9,11 +9,12 @@ use Rattle.terrain_base.proofs.Quotients.{root_is}
 use Rattle.whole_interval.specs.declared.interval.Interval.{Interval}
 use Rattle.whole_interval.specs.Interval.{IsRootUp, add_of, sub_of, mul_of, div_pos_of, root_up_of, sqrt_of}
 use Rattle.whole_interval.proofs.Enclosures.{div_pos_ordered, root_up_fits, sqrt_ordered}
+use Rattle.whole_interval.proofs.Sizes.{ceil_at_most}
 use Rattle.ecef_boxes.specs.Bounds.{IsInside}
 use Rattle.ecef_boxes.specs.Box.{whole_of, eccentricity_of, narrowing_of, radii_of, from_axis_of}
 use Rattle.ecef_boxes.specs.Box.{along_axis_of}
 use Rattle.ecef_boxes.specs.Ellipsoid.{semi_major_axis}
-use Rattle.ecef_boxes.proofs.Sizes.{add_inside, ceil_at_most, floor_at_least, mul_inside}
+use Rattle.ecef_boxes.proofs.Sizes.{add_inside, floor_at_least, mul_inside}
 
 pub whole_inside : (n : ℤ) (m : ℕ) → unsigned_abs n ≤ m → IsInside (m * 2 ^ 48) (whole_of n)
 unfolding whole_of

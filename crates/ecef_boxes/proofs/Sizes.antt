@@ -4,23 +4,18 @@ use Rattle.std.proofs.lemmas.Int.{ints, clamps, by_lt_z, unsigned_abs-mul}
 use Rattle.std.proofs.Math.Nat.{mul-le-mul}
 use Rattle.std.specs.Prelude.{ℤ, pos, ◌*ℤ◌, ◌≤ℤ◌, neg_ℤ, unsigned_abs}
 use Rattle.std.specs.Int.{int_min, int_max}
-use Rattle.terrain_base.specs.Division.{floor_of, ceil_of}
-use Rattle.terrain_base.proofs.Quotients.{apart, floor_is, ceil_is}
+use Rattle.terrain_base.specs.Division.{floor_of}
+use Rattle.terrain_base.proofs.Quotients.{apart, floor_is}
 use Rattle.whole_interval.specs.declared.interval.Interval.{Interval}
 use Rattle.whole_interval.specs.Interval.{IsWithin, least_of, greatest_of, add_of, mul_of, negated_of}
 use Rattle.whole_interval.proofs.Enclosures.{mul_ordered}
+use Rattle.whole_interval.proofs.Sizes.{ceil_at_most}
 use Rattle.ecef_boxes.specs.Bounds.{IsInside}
 
 -- a quotient rounded down is at least a whole number that is at most the quotient
 pub floor_at_least : (a : ℤ) (n : ℕ) (q : ℤ) → 0 < n → (q *ℤ pos n) ≤ℤ a → q ≤ℤ floor_of a (pos n)
 floor_at_least a n q p h = let f = floor_is a (pos n) (omega (arith, ints)) in by_lt_z (floor_of a (pos n)) q
     (λ less. absurd (omega (arith, ints, apart n (floor_of a (pos n)) q less, f.high, h)))
-    (λ fine. fine)
-
--- and rounded up it is at most one that is at least the quotient
-pub ceil_at_most : (a : ℤ) (n : ℕ) (q : ℤ) → 0 < n → a ≤ℤ (q *ℤ pos n) → ceil_of a (pos n) ≤ℤ q
-ceil_at_most a n q p h = let c = ceil_is a (pos n) (omega (arith, ints)) in by_lt_z q (ceil_of a (pos n))
-    (λ less. absurd (omega (arith, ints, apart n q (ceil_of a (pos n)) less, c.low, h)))
     (λ fine. fine)
 
 pub size_mul : (x y : ℤ) (m n : ℕ) → unsigned_abs x ≤ m → unsigned_abs y ≤ n

@@ -1,5 +1,5 @@
 -- The box of a place has small numbers.
-use Rattle.std.proofs.Common.{ℕ, ◌*◌, ◌^◌, ◌≤◌, arith}
+use Rattle.std.proofs.Common.{◌*◌, ◌^◌, ◌≤◌, arith}
 use Rattle.std.specs.Prelude.{ℤ, unsigned_abs}
 use Rattle.std.proofs.lemmas.Int.{ints}
 use Rattle.tms_tree.specs.declared.place.Place.{Place}

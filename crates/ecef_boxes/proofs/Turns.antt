@@ -4,6 +4,7 @@ use Rattle.std.proofs.lemmas.Int.{ints}
 use Rattle.std.proofs.lemmas.Bool.Decides.{nat_tests}
 use Rattle.std.proofs.Math.Nat.{mul-le-mul}
 use Rattle.std.specs.Prelude.{ℤ, pos, ◌-ℤ◌, ◌≤ℤ◌, if◌then◌else◌, ◌==◌, nat_le}
+use Rattle.std.proofs.lemmas.Bool.{leb-false}
 use Rattle.whole_interval.specs.declared.interval.Interval.{Interval}
 use Rattle.whole_interval.specs.declared.sine_cosine.SineCosine.{SineCosine}
 use Rattle.whole_interval.specs.Interval.{add_of, sub_of, mul_of, div_whole_of}
@@ -13,9 +14,9 @@ use Rattle.whole_interval.specs.HalfTurn.{partial_of, series_of, octant_sine_of,
 use Rattle.whole_interval.specs.HalfTurn.{quarter_sine_of, quarter_cosine_of, turned_of, turn_of}
 use Rattle.whole_interval.specs.HalfTurn.{half_turn_of}
 use Rattle.whole_interval.proofs.Enclosures.{div_whole_ordered}
-use Rattle.whole_interval.proofs.Sizes.{angle_up_to, mul_up_to, next_up_to, one_up_to, series_within}
+use Rattle.whole_interval.proofs.Sizes.{angle_up_to, mul_up_to, next_up_to, one_up_to, series_within, ceil_at_most}
 use Rattle.ecef_boxes.specs.Bounds.{IsInside}
-use Rattle.ecef_boxes.proofs.Sizes.{ceil_at_most, floor_at_least, negated_inside}
+use Rattle.ecef_boxes.proofs.Sizes.{floor_at_least, negated_inside}
 
 -- over a whole number from 8 on it is at most an eighth as large
 div_low : (k c : ℕ) (a : Interval) → 8 ≤ c → IsUpTo k a → pos 0 ≤ℤ (div_whole_of a c).lo
@@ -151,21 +152,18 @@ octant_cosine_inside t d p h =
 near : (m n : ℕ) → nat_le m n ≡ true → m ≤ n
 near m n e = grind (arith, nat_tests, e)
 
-far : (m n : ℕ) → nat_le m n ≡ false → n < m
-far m n e = grind (arith, nat_tests, e)
-
 sine_by : (b : Bool) (r d : ℕ) → r < d → nat_le (2 * r) d ≡ b
     → IsInside (9 * 2 ^ 45) (if b then octant_sine_of r d else octant_cosine_of (d - r) d)
 sine_by true r d p e = octant_sine_inside r d (omega (arith, p)) (near (2 * r) d e)
 sine_by false r d p e =
-    let f = far (2 * r) d e in
+    let f = leb-false (2 * r) d e in
     octant_cosine_inside (d - r) d (omega (arith, p)) (omega (arith, p, f))
 
 cosine_by : (b : Bool) (r d : ℕ) → r < d → nat_le (2 * r) d ≡ b
     → IsInside (9 * 2 ^ 45) (if b then octant_cosine_of r d else octant_sine_of (d - r) d)
 cosine_by true r d p e = octant_cosine_inside r d (omega (arith, p)) (near (2 * r) d e)
 cosine_by false r d p e =
-    let f = far (2 * r) d e in
+    let f = leb-false (2 * r) d e in
     octant_sine_inside (d - r) d (omega (arith, p)) (omega (arith, p, f))
 
 quarter_sine_inside : (r d : ℕ) → r < d → IsInside (9 * 2 ^ 45) (quarter_sine_of r d)
