@@ -1,12 +1,12 @@
 -- Fans have one height at each point.
 use Rattle.std.proofs.Common.{◌≡◌, refl, ap, sym, arith, ◌∙◌, List, [], ◌∷◌, ◌++◌, map, inl, inr, subst}
-use Rattle.std.specs.Prelude.{ℤ, pos, ◌+ℤ◌, ◌-ℤ◌, ◌*ℤ◌, ◌≤ℤ◌, ◌<ℤ◌}
+use Rattle.std.specs.Prelude.{ℤ, pos, ◌-ℤ◌, ◌*ℤ◌, ◌≤ℤ◌, ◌<ℤ◌}
 use Rattle.std.specs.List.{AllByRecursion}
 use Rattle.std.proofs.lemmas.Int.{ints}
-use Rattle.polynomial.proofs.Expressions.{var, num, add, mul}
+use Rattle.polynomial.proofs.Expressions.{var, mul}
 use Rattle.polynomial.proofs.NormalForm.{by_ring}
 use Rattle.polynomial.proofs.Signs.{factor_nonneg}
-use Rattle.mesh_plane.specs.Plane.{Point}
+use Rattle.mesh_plane.specs.Plane.{Point, point}
 use Rattle.terrain_base.specs.declared.side.Side.{Side}
 use Rattle.terrain_base.specs.declared.side.Side.TheVariants.{South, East, North, West}
 use Rattle.mesh_plane.specs.Triangles.{Triple, fan, Outer}
@@ -20,23 +20,15 @@ use Rattle.mesh_plane.proofs.Lines.{follow_moves}
 use Rattle.mesh_plane.proofs.Frames.{SectorOf, OpenSectorOf, gap_above}
 use Rattle.mesh_plane.proofs.Rings.{only, only_start, only_gap, only_inner, fan_is, begins, inside_of, fan_on, fan_sides, begins_at, begins_across, follows, side_tiles}
 use Rattle.mesh_plane.proofs.Heights.{OneLevel, Cross, cross_when, cross_sym, four_levels}
-use Rattle.mesh_plane.proofs.Edges.{On, HasEdge, edge_end, edge_cross, meets_a, meets_b, meets_c}
+use Rattle.mesh_plane.proofs.Edges.{On, on_itself, HasEdge, edge_end, edge_cross, meets_a, meets_b, meets_c}
 use Rattle.mesh_plane.proofs.SweepHeights.{sweep_one, one_moved, shifted_same}
 use Rattle.mesh_plane.proofs.SectorHeights.{neighbours}
 
 -- a point that is the point c
 on_point : (c p : Point) → p.u ≡ c.u → p.v ≡ c.v → On c c p (pos 1) (pos 0)
-on_point c p e f = record {
-  from = omega (arith, ints);
-  to = omega (arith, ints);
-  some = omega (arith, ints);
-  u = ap (λ i. (pos 1 +ℤ pos 0) *ℤ i) e
-      ∙ by_ring (mul (add (num 1) (num 0)) (var 0)) (add (mul (num 1) (var 0)) (mul (num 0) (var 0)))
-      (c.u ∷ []) refl;
-  v = ap (λ i. (pos 1 +ℤ pos 0) *ℤ i) f
-      ∙ by_ring (mul (add (num 1) (num 0)) (var 0)) (add (mul (num 1) (var 0)) (mul (num 0) (var 0)))
-      (c.v ∷ []) refl;
-}
+on_point c p e f =
+    subst (λ (q : Point). On c c q (pos 1) (pos 0)) (ap (λ i. point i c.v) (sym e) ∙ ap (λ i. point p.u i) (sym f))
+    (on_itself c)
 
 -- as far from a side as the point c is
 far_enough : (a d x w : ℤ) → pos 0 <ℤ d → x ≡ d → (a *ℤ x) ≤ℤ (d *ℤ w) → a ≤ℤ w

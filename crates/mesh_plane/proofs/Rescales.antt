@@ -1,6 +1,6 @@
 -- The law of heights in another unit.
 use Rattle.std.proofs.Common.{◌≡◌, ℕ, refl, ap, arith, ◌∙◌, List, [], ◌∷◌, map, inl, inr}
-use Rattle.std.specs.Prelude.{ℤ, pos, ◌+ℤ◌, ◌*ℤ◌, ◌≤ℤ◌, ◌⊎◌, Any}
+use Rattle.std.specs.Prelude.{ℤ, pos, ◌+ℤ◌, ◌*ℤ◌, ◌≤ℤ◌, ◌⊎◌, Any, AllPairs}
 use Rattle.std.specs.List.{AllByRecursion}
 use Rattle.std.proofs.lemmas.Int.{ints}
 use Rattle.polynomial.proofs.Expressions.{var, add, mul}
@@ -112,32 +112,26 @@ module _ (at : ℕ → Point) (z w : ℕ → ℤ) (n k m : ℤ) (far : pos 1 ≤
     abbrev Same : Tri → Tri → Type 0
     Same t u = TriangleHolds s x y t → TriangleHolds s x y u → SameHeight s x y t u
 
-    apart_each : (t : Triple ℕ) (ts : List (Triple ℕ)) → AllByRecursion (Apart (old t)) (map old ts)
-        → AllByRecursion (Apart (new t)) (map new ts)
-    apart_each t [] h = tt
-    apart_each t (u ∷ us) h = ((λ p. h.0 (strictly_back t p.0, strictly_back u p.1)), apart_each t us h.1)
+    -- what holds of each two old triangles and so of the new ones
+    module _ (P : Tri → Tri → Type 0) (kept : (t u : Triple ℕ) → P (old t) (old u) → P (new t) (new u)) where
+      each_new : (t : Triple ℕ) (ts : List (Triple ℕ)) → AllByRecursion (P (old t)) (map old ts)
+          → AllByRecursion (P (new t)) (map new ts)
+      each_new t [] h = tt
+      each_new t (u ∷ us) h = (kept t u h.0, each_new t us h.1)
 
-    same_each : (t : Triple ℕ) (ts : List (Triple ℕ)) → AllByRecursion (Same (old t)) (map old ts)
-        → AllByRecursion (Same (new t)) (map new ts)
-    same_each t [] h = tt
-    same_each t (u ∷ us) h =
-        ((λ i j. same_new t u s x y (h.0 (held_back t i) (held_back u j))), same_each t us h.1)
+      pairs_new : (ts : List (Triple ℕ)) → AllPairs P (map old ts) → AllPairs P (map new ts)
+      pairs_new [] h = pairs_none P
+      pairs_new (t ∷ ts) h =
+          pairs_cons P (new t) (map new ts)
+          (all_from (P (new t)) (map new ts)
+          (each_new t ts (all_to (P (old t)) (map old ts) (pairs_head P (old t) (map old ts) h))))
+          (pairs_new ts (pairs_tail P (old t) (map old ts) h))
 
     once_new : (ts : List (Triple ℕ)) → HeldOnce s x y (map old ts) → HeldOnce s x y (map new ts)
-    once_new [] h = pairs_none Apart
-    once_new (t ∷ ts) h =
-        pairs_cons Apart (new t) (map new ts)
-        (all_from (Apart (new t)) (map new ts)
-        (apart_each t ts (all_to (Apart (old t)) (map old ts) (pairs_head Apart (old t) (map old ts) h))))
-        (once_new ts (pairs_tail Apart (old t) (map old ts) h))
+    once_new = pairs_new Apart (λ t u f p. f (strictly_back t p.0, strictly_back u p.1))
 
     level_new : (ts : List (Triple ℕ)) → OneHeight s x y (map old ts) → OneHeight s x y (map new ts)
-    level_new [] h = pairs_none Same
-    level_new (t ∷ ts) h =
-        pairs_cons Same (new t) (map new ts)
-        (all_from (Same (new t)) (map new ts)
-        (same_each t ts (all_to (Same (old t)) (map old ts) (pairs_head Same (old t) (map old ts) h))))
-        (level_new ts (pairs_tail Same (old t) (map old ts) h))
+    level_new = pairs_new Same (λ t u f i j. same_new t u s x y (f (held_back t i) (held_back u j)))
 
 pub rescale_law : RescaleLaw
 rescale_law at z w n k m ts far unit c = record {

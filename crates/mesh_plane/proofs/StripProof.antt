@@ -144,30 +144,30 @@ module _ (s : ℤ) (h : pos 1 ≤ℤ s) where
     ascend_scaled at z side outer inner o x steps a.2,
   )
 
+  turn_out : (a b : Corner) (p : Point) → pos 0 ≤ℤ turn (place_at s a) (place_at s b) p → pos 0 ≤ℤ side_of a b s p.u p.v
+  turn_out a b p =
+      nonneg_out s (side_of a b s p.u p.v) (turn (place_at s a) (place_at s b) p) h (side_scaled a b s p.u p.v)
+
+  turn_in : (a b : Corner) (p : Point) → pos 0 ≤ℤ side_of a b s p.u p.v → pos 0 ≤ℤ turn (place_at s a) (place_at s b) p
+  turn_in a b p =
+      nonneg_in s (side_of a b s p.u p.v) (turn (place_at s a) (place_at s b) p) h (side_scaled a b s p.u p.v)
+
   quad_out : (a b c d : Corner) (p : Point)
       → QuadAt (place_at s a) (place_at s b) (place_at s c) (place_at s d) p → InQuad a b c d s p.u p.v
   quad_out a b c d p i = record {
-    ab = nonneg_out s (side_of a b s p.u p.v) (turn (place_at s a) (place_at s b) p) h
-        (side_scaled a b s p.u p.v) i.ab;
-    bc = nonneg_out s (side_of b c s p.u p.v) (turn (place_at s b) (place_at s c) p) h
-        (side_scaled b c s p.u p.v) i.bc;
-    cd = nonneg_out s (side_of c d s p.u p.v) (turn (place_at s c) (place_at s d) p) h
-        (side_scaled c d s p.u p.v) i.cd;
-    da = nonneg_out s (side_of d a s p.u p.v) (turn (place_at s d) (place_at s a) p) h
-        (side_scaled d a s p.u p.v) i.da;
+    ab = turn_out a b p i.ab;
+    bc = turn_out b c p i.bc;
+    cd = turn_out c d p i.cd;
+    da = turn_out d a p i.da;
   }
 
   quad_in : (a b c d : Corner) (p : Point) → InQuad a b c d s p.u p.v
       → QuadAt (place_at s a) (place_at s b) (place_at s c) (place_at s d) p
   quad_in a b c d p i = record {
-    ab = nonneg_in s (side_of a b s p.u p.v) (turn (place_at s a) (place_at s b) p) h
-        (side_scaled a b s p.u p.v) i.ab;
-    bc = nonneg_in s (side_of b c s p.u p.v) (turn (place_at s b) (place_at s c) p) h
-        (side_scaled b c s p.u p.v) i.bc;
-    cd = nonneg_in s (side_of c d s p.u p.v) (turn (place_at s c) (place_at s d) p) h
-        (side_scaled c d s p.u p.v) i.cd;
-    da = nonneg_in s (side_of d a s p.u p.v) (turn (place_at s d) (place_at s a) p) h
-        (side_scaled d a s p.u p.v) i.da;
+    ab = turn_in a b p i.ab;
+    bc = turn_in b c p i.bc;
+    cd = turn_in c d p i.cd;
+    da = turn_in d a p i.da;
   }
 
   strip_out : (side : Side) (o n o' n' : Corner) (p : Point)

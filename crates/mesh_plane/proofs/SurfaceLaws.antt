@@ -2,7 +2,7 @@
 use Rattle.std.proofs.Common.{◌≡◌, refl, ap, sym, arith, ◌∙◌, subst, List, [], ◌∷◌}
 use Rattle.std.specs.Prelude.{◌↔◌, ℤ, pos, ◌+ℤ◌, ◌-ℤ◌, ◌*ℤ◌, ◌≤ℤ◌, ◌<ℤ◌, unsigned_abs, Contains}
 use Rattle.std.proofs.lemmas.Int.{ints}
-use Rattle.polynomial.proofs.Expressions.{Expr, var, add, sub, mul}
+use Rattle.polynomial.proofs.Expressions.{Expr, var, num, add, sub, mul}
 use Rattle.polynomial.proofs.NormalForm.{by_ring}
 use Rattle.polynomial.proofs.Signs.{times_nonneg, times_pos, factor_nonneg, weaken}
 use Rattle.mesh_plane.specs.declared.corner.Corner.{Corner}
@@ -155,25 +155,38 @@ pub size_of_near : (z t : ℤ) → z ≤ℤ t → (pos 0 -ℤ z) ≤ℤ t → po
 size_of_near z t h k = grind (arith, ints)
 
 -- one fraction by another that is equal: l/m = x/d
+at_most_moved : (k m l d x : ℤ) → pos 0 <ℤ m → pos 0 <ℤ d → x *ℤ m ≡ l *ℤ d → l ≤ℤ (k *ℤ m) → x ≤ℤ (k *ℤ d)
+at_most_moved k m l d x hm hd e h =
+    let a = times_nonneg d (k *ℤ m -ℤ l) (weaken hd) (omega (arith, ints, h)) in
+    let b : d *ℤ (k *ℤ m -ℤ l) ≡ m *ℤ (k *ℤ d) -ℤ l *ℤ d =
+    by_ring (mul (var 0) (sub (mul (var 1) (var 2)) (var 3)))
+    (sub (mul (var 2) (mul (var 1) (var 0))) (mul (var 3) (var 0))) (d ∷ k ∷ m ∷ l ∷ []) refl in
+    let c : m *ℤ (k *ℤ d -ℤ x) ≡ m *ℤ (k *ℤ d) -ℤ x *ℤ m =
+    by_ring (mul (var 2) (sub (mul (var 1) (var 0)) (var 3)))
+    (sub (mul (var 2) (mul (var 1) (var 0))) (mul (var 3) (var 2))) (d ∷ k ∷ m ∷ x ∷ []) refl in
+    let f = factor_nonneg m (k *ℤ d -ℤ x) hm (omega (arith, ints, a, b, c, e)) in omega (arith, ints, f)
+
+difference_times : (a b c : ℤ) → (a -ℤ b) *ℤ c ≡ a *ℤ c -ℤ b *ℤ c
+difference_times a b c =
+    by_ring (mul (sub (var 0) (var 1)) (var 2)) (sub (mul (var 0) (var 2)) (mul (var 1) (var 2))) (a ∷ b ∷ c ∷ []) refl
+
+sum_times : (a b c : ℤ) → (a +ℤ b) *ℤ c ≡ a *ℤ c +ℤ b *ℤ c
+sum_times a b c =
+    by_ring (mul (add (var 0) (var 1)) (var 2)) (add (mul (var 0) (var 2)) (mul (var 1) (var 2))) (a ∷ b ∷ c ∷ []) refl
+
+minus_times : (a c : ℤ) → (pos 0 -ℤ a) *ℤ c ≡ pos 0 -ℤ a *ℤ c
+minus_times a c = by_ring (mul (sub (num 0) (var 0)) (var 1)) (sub (num 0) (mul (var 0) (var 1))) (a ∷ c ∷ []) refl
+
 pub near_moved : (t h m l d x : ℤ) → pos 0 <ℤ m → pos 0 <ℤ d → x *ℤ m ≡ l *ℤ d → IsNear t h m l → IsNear t h d x
 near_moved t h m l d x hm hd e n =
-    let a : pos 0 ≤ℤ (d *ℤ (t *ℤ m -ℤ (l -ℤ h *ℤ m))) = times_nonneg d (t *ℤ m -ℤ (l -ℤ h *ℤ m)) (weaken hd) (omega (arith, ints, n.above)) in
-    let b : pos 0 ≤ℤ (d *ℤ (t *ℤ m -ℤ (h *ℤ m -ℤ l))) = times_nonneg d (t *ℤ m -ℤ (h *ℤ m -ℤ l)) (weaken hd) (omega (arith, ints, n.below)) in
-    let p : d *ℤ (t *ℤ m -ℤ (l -ℤ h *ℤ m)) ≡ m *ℤ (t *ℤ d +ℤ h *ℤ d) -ℤ l *ℤ d =
-    by_ring (mul (var 0) (sub (mul (var 1) (var 2)) (sub (var 3) (mul (var 4) (var 2)))))
-    (sub (mul (var 2) (add (mul (var 1) (var 0)) (mul (var 4) (var 0)))) (mul (var 3) (var 0))) (d ∷ t ∷ m ∷ l ∷ h ∷ []) refl in
-    let q : m *ℤ (t *ℤ d -ℤ (x -ℤ h *ℤ d)) ≡ m *ℤ (t *ℤ d +ℤ h *ℤ d) -ℤ x *ℤ m =
-    by_ring (mul (var 2) (sub (mul (var 1) (var 0)) (sub (var 3) (mul (var 4) (var 0)))))
-    (sub (mul (var 2) (add (mul (var 1) (var 0)) (mul (var 4) (var 0)))) (mul (var 3) (var 2))) (d ∷ t ∷ m ∷ x ∷ h ∷ []) refl in
-    let r : d *ℤ (t *ℤ m -ℤ (h *ℤ m -ℤ l)) ≡ m *ℤ (t *ℤ d -ℤ h *ℤ d) +ℤ l *ℤ d =
-    by_ring (mul (var 0) (sub (mul (var 1) (var 2)) (sub (mul (var 4) (var 2)) (var 3))))
-    (add (mul (var 2) (sub (mul (var 1) (var 0)) (mul (var 4) (var 0)))) (mul (var 3) (var 0))) (d ∷ t ∷ m ∷ l ∷ h ∷ []) refl in
-    let s : m *ℤ (t *ℤ d -ℤ (h *ℤ d -ℤ x)) ≡ m *ℤ (t *ℤ d -ℤ h *ℤ d) +ℤ x *ℤ m =
-    by_ring (mul (var 2) (sub (mul (var 1) (var 0)) (sub (mul (var 4) (var 0)) (var 3))))
-    (add (mul (var 2) (sub (mul (var 1) (var 0)) (mul (var 4) (var 0)))) (mul (var 3) (var 2))) (d ∷ t ∷ m ∷ x ∷ h ∷ []) refl in
-    let u : pos 0 ≤ℤ (t *ℤ d -ℤ (x -ℤ h *ℤ d)) = factor_nonneg m (t *ℤ d -ℤ (x -ℤ h *ℤ d)) hm (omega (arith, ints, a, p, q, e)) in
-    let v : pos 0 ≤ℤ (t *ℤ d -ℤ (h *ℤ d -ℤ x)) = factor_nonneg m (t *ℤ d -ℤ (h *ℤ d -ℤ x)) hm (omega (arith, ints, b, r, s, e)) in
-    record { above = omega (arith, ints, u); below = omega (arith, ints, v) }
+    let up = at_most_moved (t +ℤ h) m l d x hm hd e (omega (arith, ints, n.above, sum_times t h m)) in
+    let down = at_most_moved (t -ℤ h) m (pos 0 -ℤ l) d (pos 0 -ℤ x) hm hd
+    (omega (arith, ints, e, minus_times x m, minus_times l d))
+    (omega (arith, ints, n.below, difference_times t h m)) in
+    record {
+      above = omega (arith, ints, up, sum_times t h d);
+      below = omega (arith, ints, down, difference_times t h d);
+    }
 
 abbrev GapIsNear : Tri → ℤ → ℤ → ℤ → ℤ → ℤ → Type 0
 GapIsNear t s x y metres n = gap_over t s x y metres ≤ℤ (n *ℤ gap_under t s)

@@ -27,69 +27,62 @@ surface_some ts s x y c h i =
       },
     )
 
-module _ (s x y m n k l : ℤ) (h : pos 1 ≤ℤ s) where
+module _ (s x y : ℤ) where
   abbrev At : ℤ → ℤ → Tri → Type 0
   At over under t = TriangleHolds s x y t × HasHeight s x y over under t
-
-  -- two fractions of one height
-  equal : (t u : Tri) → IsCounterClockwise t → IsCounterClockwise u → At m n t → At k l u
-      → SameHeight s x y t u → m *ℤ l ≡ k *ℤ n
-  equal t u ht hu a b e =
-      let d = doubled_area t in let f = doubled_area u in let i = lift_of t s x y in
-      let j = lift_of u s x y in
-      let big = times_pos s (d *ℤ f) (omega (arith, ints, h)) (times_pos d f ht hu) in
-      cancelled (s *ℤ (d *ℤ f)) (m *ℤ l) (k *ℤ n) big
-      (by_ring (mul (mul (var 0) (mul (var 1) (var 2))) (mul (var 3) (var 4)))
-      (mul (mul (var 3) (mul (var 0) (var 1))) (mul (var 2) (var 4)))
-      (s ∷ d ∷ f ∷ m ∷ l ∷ []) refl
-      ∙ ap (λ v. v *ℤ (f *ℤ l)) (sym a.1)
-      ∙ by_ring (mul (mul (var 0) (var 1)) (mul (var 2) (var 3)))
-      (mul (mul (var 0) (var 2)) (mul (var 1) (var 3))) (i ∷ n ∷ f ∷ l ∷ []) refl
-      ∙ ap (λ v. v *ℤ (n *ℤ l)) e
-      ∙ by_ring (mul (mul (var 0) (var 1)) (mul (var 2) (var 3)))
-      (mul (mul (var 0) (var 3)) (mul (var 1) (var 2))) (j ∷ d ∷ n ∷ l ∷ []) refl
-      ∙ ap (λ v. v *ℤ (d *ℤ n)) b.1
-      ∙ by_ring (mul (mul (var 0) (mul (var 1) (var 2))) (mul (var 3) (var 4)))
-      (mul (mul (var 1) (mul (var 3) (var 2))) (mul (var 0) (var 4)))
-      (k ∷ s ∷ f ∷ d ∷ n ∷ []) refl)
 
   abbrev Same : Tri → Tri → Type 0
   Same t u = TriangleHolds s x y t → TriangleHolds s x y u → SameHeight s x y t u
 
-  later : (t : Tri) (ts : List Tri) → IsCounterClockwise t → AllByRecursion IsCounterClockwise ts
-      → AllByRecursion (Same t) ts
-      → At m n t → Any (At k l) ts → m *ℤ l ≡ k *ℤ n
-  later t [] ht c o a b = absurd (any_none (At k l) b)
-  later t (u ∷ us) ht c o a b = go (any_cases (At k l) u us b) (later t us ht c.1 o.1 a)
-    where
-      go : At k l u ⊎ Any (At k l) us → (Any (At k l) us → m *ℤ l ≡ k *ℤ n) → m *ℤ l ≡ k *ℤ n
-      go (inl i) f = equal t u ht c.0 a i (o.0 a.0 i.0)
-      go (inr i) f = f i
+  module _ (m n k l : ℤ) (h : pos 1 ≤ℤ s) where
+    -- two fractions of one height
+    equal : (t u : Tri) → IsCounterClockwise t → IsCounterClockwise u → At m n t → At k l u
+        → SameHeight s x y t u → m *ℤ l ≡ k *ℤ n
+    equal t u ht hu a b e =
+        let d = doubled_area t in let f = doubled_area u in let i = lift_of t s x y in
+        let j = lift_of u s x y in
+        let big = times_pos s (d *ℤ f) (omega (arith, ints, h)) (times_pos d f ht hu) in
+        cancelled (s *ℤ (d *ℤ f)) (m *ℤ l) (k *ℤ n) big
+        (by_ring (mul (mul (var 0) (mul (var 1) (var 2))) (mul (var 3) (var 4)))
+        (mul (mul (var 3) (mul (var 0) (var 1))) (mul (var 2) (var 4)))
+        (s ∷ d ∷ f ∷ m ∷ l ∷ []) refl
+        ∙ ap (λ v. v *ℤ (f *ℤ l)) (sym a.1)
+        ∙ by_ring (mul (mul (var 0) (var 1)) (mul (var 2) (var 3)))
+        (mul (mul (var 0) (var 2)) (mul (var 1) (var 3))) (i ∷ n ∷ f ∷ l ∷ []) refl
+        ∙ ap (λ v. v *ℤ (n *ℤ l)) e
+        ∙ by_ring (mul (mul (var 0) (var 1)) (mul (var 2) (var 3)))
+        (mul (mul (var 0) (var 3)) (mul (var 1) (var 2))) (j ∷ d ∷ n ∷ l ∷ []) refl
+        ∙ ap (λ v. v *ℤ (d *ℤ n)) b.1
+        ∙ by_ring (mul (mul (var 0) (mul (var 1) (var 2))) (mul (var 3) (var 4)))
+        (mul (mul (var 1) (mul (var 3) (var 2))) (mul (var 0) (var 4)))
+        (k ∷ s ∷ f ∷ d ∷ n ∷ []) refl)
 
-  earlier : (t : Tri) (ts : List Tri) → IsCounterClockwise t → AllByRecursion IsCounterClockwise ts
-      → AllByRecursion (Same t) ts
-      → At k l t → Any (At m n) ts → m *ℤ l ≡ k *ℤ n
-  earlier t [] ht c o a b = absurd (any_none (At m n) b)
-  earlier t (u ∷ us) ht c o a b = go (any_cases (At m n) u us b) (earlier t us ht c.1 o.1 a)
-    where
-      go : At m n u ⊎ Any (At m n) us → (Any (At m n) us → m *ℤ l ≡ k *ℤ n) → m *ℤ l ≡ k *ℤ n
-      go (inl i) f = equal u t c.0 ht i a (sym (o.0 a.0 i.0))
-      go (inr i) f = f i
+    later : (t : Tri) (ts : List Tri) → IsCounterClockwise t → AllByRecursion IsCounterClockwise ts
+        → AllByRecursion (Same t) ts
+        → At m n t → Any (At k l) ts → m *ℤ l ≡ k *ℤ n
+    later t [] ht c o a b = absurd (any_none (At k l) b)
+    later t (u ∷ us) ht c o a b = go (any_cases (At k l) u us b) (later t us ht c.1 o.1 a)
+      where
+        go : At k l u ⊎ Any (At k l) us → (Any (At k l) us → m *ℤ l ≡ k *ℤ n) → m *ℤ l ≡ k *ℤ n
+        go (inl i) f = equal t u ht c.0 a i (o.0 a.0 i.0)
+        go (inr i) f = f i
 
-  both_at : (ts : List Tri) → AllByRecursion IsCounterClockwise ts → AllPairs Same ts → Any (At m n) ts
-      → Any (At k l) ts → m *ℤ l ≡ k *ℤ n
-  both_at [] c o a b = absurd (any_none (At m n) a)
-  both_at (t ∷ ts) c o a b =
-      go (any_cases (At m n) t ts a) (any_cases (At k l) t ts b) (both_at ts c.1 (pairs_tail Same t ts o))
-    where
-      go : At m n t ⊎ Any (At m n) ts → At k l t ⊎ Any (At k l) ts
-          → (Any (At m n) ts → Any (At k l) ts → m *ℤ l ≡ k *ℤ n) → m *ℤ l ≡ k *ℤ n
-      go (inl i) (inl j) f = equal t t c.0 c.0 i j refl
-      go (inl i) (inr j) f = later t ts c.0 c.1 (all_to (Same t) ts (pairs_head Same t ts o)) i j
-      go (inr i) (inl j) f = earlier t ts c.0 c.1 (all_to (Same t) ts (pairs_head Same t ts o)) j i
-      go (inr i) (inr j) f = f i j
+  module _ (m n k l : ℤ) (h : pos 1 ≤ℤ s) where
+    both_at : (ts : List Tri) → AllByRecursion IsCounterClockwise ts → AllPairs Same ts → Any (At m n) ts
+        → Any (At k l) ts → m *ℤ l ≡ k *ℤ n
+    both_at [] c o a b = absurd (any_none (At m n) a)
+    both_at (t ∷ ts) c o a b =
+        go (any_cases (At m n) t ts a) (any_cases (At k l) t ts b) (both_at ts c.1 (pairs_tail Same t ts o))
+      where
+        go : At m n t ⊎ Any (At m n) ts → At k l t ⊎ Any (At k l) ts
+            → (Any (At m n) ts → Any (At k l) ts → m *ℤ l ≡ k *ℤ n) → m *ℤ l ≡ k *ℤ n
+        go (inl i) (inl j) f = equal m n k l h t t c.0 c.0 i j refl
+        go (inl i) (inr j) f = later m n k l h t ts c.0 c.1 (all_to (Same t) ts (pairs_head Same t ts o)) i j
+        go (inr i) (inl j) f =
+            sym (later k l m n h t ts c.0 c.1 (all_to (Same t) ts (pairs_head Same t ts o)) j i)
+        go (inr i) (inr j) f = f i j
 
-  pub surface_one : (ts : List Tri) → Covers ts → Surface ts s x y m n → Surface ts s x y k l
-      → m *ℤ l ≡ k *ℤ n
-  surface_one ts c a b =
-      both_at ts (all_to IsCounterClockwise ts c.counter_clockwise) (c.one_height s x y h) a.shown b.shown
+    pub surface_one : (ts : List Tri) → Covers ts → Surface ts s x y m n → Surface ts s x y k l
+        → m *ℤ l ≡ k *ℤ n
+    surface_one ts c a b =
+        both_at ts (all_to IsCounterClockwise ts c.counter_clockwise) (c.one_height s x y h) a.shown b.shown
