@@ -6,11 +6,11 @@ use Rattle.std.specs.FinMap.{IsAntisymmetric}
 use Rattle.std.proofs.lemmas.Cmp.{eq_by_cmp_equiv}
 use Rattle.std.proofs.lemmas.Map.Lookups.{exact_pairs, exact_unsigned}
 use Rattle.std.proofs.lemmas.Map.Views.{tells_apart}
+use Rattle.common_laws.proofs.Booleans.{same_from_both}
 use Rattle.old_manifest.specs.declared.row.OldRow.{OldRow}
 use Rattle.old_manifest.specs.OldRows.{old_total}
 use Rattle.old_manifest.specs.Rows.{old_cmp, old_rank_of}
 use Rattle.old_manifest.proofs.OldKeys.{same_old}
-use Rattle.database.proofs.Tests.{same_test}
 
 old_exact : IsAntisymmetric old_cmp
 old_exact a b e =
@@ -23,6 +23,6 @@ row_self a = (eq_by_cmp_equiv old_total).refl a
 
 -- a test of rows is the order's
 pub row_test : (a b : OldRow) (is : Bool) → (IsTrue is → a ≡ b) → (a ≡ b → IsTrue is) → is ≡ eq_by_cmp old_cmp a b
-row_test a b is then back = same_test is (eq_by_cmp old_cmp a b)
+row_test a b is then back = same_from_both is (eq_by_cmp old_cmp a b)
     (λ e. subst (λ row. eq_by_cmp old_cmp row b ≡ true) (sym (then e)) (row_self b))
     (λ e. back (tells_apart old_exact a b e))

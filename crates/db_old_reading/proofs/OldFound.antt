@@ -1,6 +1,6 @@
 -- What the reading of an old database finds.
-use Rattle.std.proofs.Common.{◌≡◌, ℕ, ◌<◌, ◌≤◌, Bool, true, false, cond, List, [], ◌∷◌, length, map, Option, Some, None, refl, sym, ap, subst, ◌∙◌, arith}
-use Rattle.std.specs.Prelude.{IsSomeAnd, IfSome, IfErr, Result, Ok, Err}
+use Rattle.std.proofs.Common.{◌≡◌, ℕ, ◌<◌, ◌≤◌, Bool, true, false, cond, List, [], ◌∷◌, length, map, Option, Some, refl, sym, ap, subst, ◌∙◌, arith}
+use Rattle.std.specs.Prelude.{IsSomeAnd}
 use Rattle.std.specs.FinMap.{get, keys, entries, find, from_sorted, entries-from_sorted, get-from_sorted}
 use Rattle.std.specs.List.{AllByRecursion}
 use Rattle.std.specs.List.Sorted.{IsStrictlySortedBy}
@@ -9,7 +9,6 @@ use Rattle.std.specs.declared.cmp.Ordering.{Ordering}
 use Rattle.std.specs.declared.cmp.Ordering.TheVariants.{Less, Equal, Greater}
 use Rattle.std.proofs.lemmas.List.{length-map}
 use Rattle.terrain_base.specs.declared.cell_key.CellKey.{CellKey}
-use Rattle.terrain_base.specs.declared.name.Key.{Key}
 use Rattle.terrain_base.specs.declared.name.Key.TheVariants.{Manifest}
 use Rattle.terrain_base.specs.declared.summary.Summary.{Summary}
 use Rattle.terrain_base.specs.CellKey.{key_cmp}
@@ -26,11 +25,10 @@ use Rattle.old_manifest.specs.Manifest.{Contents, IsManifest, manifest_text, sta
 use Rattle.old_manifest.specs.Rows.{old_cmp}
 use Rattle.database.specs.Answer.{IsStop}
 use Rattle.database.specs.Cells.{AreRows, row_key, row_keys}
-use Rattle.database.specs.Reading.{or_nothing}
 use Rattle.database.specs.State.{State}
 use Rattle.database.specs.declared.answer.EngineAnswer.{EngineAnswer}
 use Rattle.database.specs.declared.answer.EngineAnswer.TheVariants as answer
-use Rattle.database.proofs.Reading.{sorted_entries}
+use Rattle.database.proofs.Reading.{sorted_entries, keys_back, told_back, kept_is}
 use Rattle.database.proofs.Tests.{key_same}
 use Rattle.db_old_reading.specs.declared.reading.OldReading.{OldReading}
 use Rattle.db_old_reading.specs.Kept.{row_of, kept_under, bytes_under}
@@ -41,14 +39,6 @@ use Rattle.db_old_reading.proofs.OldOpenings.{not_in_trouble, not_present, not_r
 use Rattle.db_old_reading.proofs.OldStates.{HasManifest, IsHeld, of_state, one_manifest, one_state}
 
 -- ---- the manifest
-
--- what a get found, where the store tells its files
-pub found_is : (held : Option Files) (found : Option (List ℕ)) (name : Key) (files : Files) → held ≡ Some files → IfSome held (λ fs. found ≡ get fs name) → found ≡ get files name
-found_is held found name files is said = subst (λ o. IfSome o (λ fs. found ≡ get fs name)) is said
-
-pub map_err : {T E : Type 0} (result : Result T E) (P Q : E → Type 0) → ((e : E) → P e → Q e) → IfErr result P → IfErr result Q
-map_err (Ok value) P Q f p = tt
-map_err (Err e) P Q f p = f e p
 
 -- the bytes that are refused are those that are held
 pub held_refused : (files : Files) (bytes : List ℕ) (a : EngineAnswer) → Some bytes ≡ get files Manifest → IsRefusedAs bytes a → IsNoManifest files a
@@ -118,14 +108,6 @@ cells_of files staged v ks = from_sorted (map (λ k. (k, bytes_of files staged v
 cells_entries : (files : Files) (staged : Option OldRow) (v : Version) (ks : List CellKey) → IsStrictlySortedBy key_cmp ks → entries (cells_of files staged v ks) ≡ map (λ k. (k, bytes_of files staged v k)) ks
 cells_entries files staged v ks asc = entries-from_sorted key_cmp (map (λ k. (k, bytes_of files staged v k)) ks) (sorted_entries (bytes_of files staged v) ks asc)
 
-keys_back : (f : CellKey → List ℕ) (ks : List CellKey) → map (λ (e : CellKey × List ℕ). e.0) (map (λ k. (k, f k)) ks) ≡ ks
-keys_back f [] = refl
-keys_back f (k ∷ ks) = ap (λ js. k ∷ js) (keys_back f ks)
-
-told_back : (f : CellKey → List ℕ) (ks : List CellKey) → map (λ (e : CellKey × List ℕ). summary_of e.0 e.1) (map (λ k. (k, f k)) ks) ≡ map (λ k. summary_of k (f k)) ks
-told_back f [] = refl
-told_back f (k ∷ ks) = ap (λ js. summary_of k (f k) ∷ js) (told_back f ks)
-
 cells_keys : (files : Files) (staged : Option OldRow) (v : Version) (ks : List CellKey) → IsStrictlySortedBy key_cmp ks → keys (cells_of files staged v ks) ≡ ks
 cells_keys files staged v ks asc = ap (map (λ (e : CellKey × List ℕ). e.0)) (cells_entries files staged v ks asc) ∙ keys_back (bytes_of files staged v) ks
 
@@ -139,10 +121,6 @@ all_told files v staged (cell ∷ cells) all = λ i. all.0.told i ∷ all_told f
 all_held : (files : Files) (v : Version) (staged : Option OldRow) (cells : List Summary) → AreRead files v staged cells → AllByRecursion (IsHeld files staged v) (row_keys cells)
 all_held files v staged [] all = tt
 all_held files v staged (cell ∷ cells) all = (all.0.kept, all_held files v staged cells all.1)
-
-kept_is : (held : Option (List ℕ)) (k : CellKey) (bytes : List ℕ) → IsSomeAnd held (IsSoundCell k) → Some (or_nothing held) ≡ Some bytes → (held ≡ Some bytes) × IsSoundCell k bytes
-kept_is None k bytes is e = absurd is
-kept_is (Some found) k bytes is e = let same : found ≡ bytes = cc in (e, subst (λ x. IsSoundCell k x) same is)
 
 abbrev IsAt : Files → Option OldRow → Version → CellKey → List ℕ → Type 0
 IsAt files staged v key bytes = (get files (kept_under staged (row_of v key)) ≡ Some bytes) × IsSoundCell key bytes

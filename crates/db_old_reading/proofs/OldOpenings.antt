@@ -3,6 +3,7 @@ use Rattle.std.proofs.Common.{◌≡◌, ℕ, ◌<◌, ◌++◌, List, [], ◌�
 use Rattle.std.specs.Prelude.{IsSomeAnd, Bool, true, false, if◌then◌else◌}
 use Rattle.std.specs.FinMap.{get}
 use Rattle.std.specs.List.{AllByRecursion}
+use Rattle.common_laws.proofs.Options.{holds_of_some}
 use Rattle.terrain_base.specs.declared.name.Key.TheVariants.{Manifest}
 use Rattle.terrain_base.specs.Step.{Files}
 use Rattle.dted_cell.specs.declared.trouble.CellTrouble.{CellTrouble}
@@ -133,12 +134,9 @@ first_once files t u f g =
 
 -- ---- refused manifests
 
-at_some : (held : Option (List ℕ)) (bytes : List ℕ) (P : List ℕ → Type 0) → held ≡ Some bytes → IsSomeAnd held P → P bytes
-at_some held bytes P e is = subst (λ x. IsSomeAnd x P) e is
-
 pub not_present : {files : Files} {v : Version} {m : Contents} (n : ℕ) → version_number v < 3 → HasManifest files v m → MigratesAs files (NotOld n) → ⊥
 not_present {files = files} {v = v} {m = m} n old h is =
-    let present = at_some (get files Manifest) (manifest_text old_grammar v m) (IsPresent n) h.manifest is in
+    let present = holds_of_some (get files Manifest) (manifest_text old_grammar v m) (IsPresent n) h.manifest is in
     let found : Some (version_number v) ≡ Some n = sym (text_version old_grammar v m) ∙ present.1 in
     let same : version_number v ≡ n = cc in
     let three : n ≡ 3 = present.0 in

@@ -1,6 +1,6 @@
 -- The cells of old rows, read one by one.
 use Rattle.std.proofs.Common.{◌≡◌, ℕ, zero, suc, ◌+◌, ◌<◌, ◌++◌, List, [], ◌∷◌, length, map, take, drop, get_or, Option, Some, None, refl, sym, ap, subst, ◌∙◌, add-one, drop-cons, arith}
-use Rattle.std.specs.Prelude.{IsTrue, IfErr, IsErrAnd, Result, Ok, Err}
+use Rattle.std.specs.Prelude.{IsTrue}
 use Rattle.std.specs.FinMap.{get}
 use Rattle.std.specs.List.{AllByRecursion}
 use Rattle.std.proofs.lemmas.List.{take_more, take-append-drop, map-append}
@@ -21,11 +21,6 @@ use Rattle.db_old_reading.specs.Kept.{row_of, key_of, kept_under}
 use Rattle.db_old_reading.specs.OldOpening.{IsKept}
 use Rattle.db_old_reading.specs.Told.{IsRead, AreRead, IsRowTrouble, IsRowsTrouble}
 use Rattle.db_old_reading.proofs.OldStates.{kept_of}
-
--- an answer passed on by a `?` keeps what holds of it
-pub err_is : {T E : Type 0} (result : Result T E) (fault : E) (P : E → Type 0) → IsErrAnd result (λ e. e ≡ fault) → P fault → IfErr result P
-err_is (Ok value) fault P is p = tt
-err_is (Err e) fault P is p = subst P (sym is) p
 
 -- a row of the version is that of its cell's key
 level_back : (v : Version) (level : Option CellLevel) (own : CellLevel) (row : OldRow) → row.level ≡ level → IsTrue (old_suits v level) → row ≡ row_of v (record { square = row.square; level = unwrap_or level own })

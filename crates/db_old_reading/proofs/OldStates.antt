@@ -1,6 +1,6 @@
 -- Files read as one state by an old version, and as no other.
-use Rattle.std.proofs.Common.{◌≡◌, ℕ, zero, suc, Bool, true, false, ◌||◌, is_some, List, [], ◌∷◌, map, Option, Some, None, refl, sym, ap, subst, ◌∙◌}
-use Rattle.std.specs.Prelude.{IsSomeAnd, slice_get}
+use Rattle.std.proofs.Common.{◌≡◌, ℕ, true, is_some, List, [], ◌∷◌, map, Option, Some, None, refl, sym, ap, subst, ◌∙◌}
+use Rattle.std.specs.Prelude.{IsSomeAnd}
 use Rattle.std.specs.FinMap.{get, keys, contains_key-keys, same_map}
 use Rattle.std.specs.List.{AllByRecursion, list_any}
 use Rattle.std.specs.Ordering.{eq_by_cmp}
@@ -22,7 +22,7 @@ use Rattle.old_manifest.specs.Rows.{old_grammar}
 use Rattle.database.specs.State.{State}
 use Rattle.database.proofs.Given.{keys_total, keys_exact}
 use Rattle.database.proofs.Reading.{all_rows}
-use Rattle.database.proofs.Tests.{key_self}
+use Rattle.database.proofs.Openings.{any_at}
 use Rattle.db_old_reading.specs.Kept.{row_of, key_of, kept_under}
 use Rattle.db_old_reading.specs.OldOpening.{IsKept}
 use Rattle.db_old_reading.specs.OldReads.{OldMark, OldReads, contents_of}
@@ -62,15 +62,6 @@ one_manifest {files = files} {v = v} {w = w} {a = a} {b = b} h k =
 -- the cell of the key is held where its row's is kept
 abbrev pub IsHeld : Files → Option OldRow → Version → CellKey → Type 0
 IsHeld files staged v key = IsSomeAnd (get files (kept_under staged (row_of v key))) (IsSoundCell key)
-
-later : (a b : Bool) → b ≡ true → (a || b) ≡ true
-later true b e = refl
-later false b e = e
-
-pub any_at : (keys : List CellKey) (n : ℕ) (key : CellKey) → slice_get keys n ≡ Some key → list_any (eq_by_cmp key_cmp key) keys ≡ true
-any_at [] n key e = absurd (cc)
-any_at (k ∷ keys) zero key e = let same : k ≡ key = cc in rw same (rw (key_self key) refl)
-any_at (k ∷ keys) (suc n) key e = later (eq_by_cmp key_cmp key k) (list_any (eq_by_cmp key_cmp key) keys) (any_at keys n key e)
 
 held_of : (own held : Option (List ℕ)) (key : CellKey) → is_some own ≡ true → ((bytes : List ℕ) → own ≡ Some bytes → (held ≡ Some bytes) × IsSoundCell key bytes) → IsSomeAnd held (IsSoundCell key)
 held_of None held key some at = absurd (cc)

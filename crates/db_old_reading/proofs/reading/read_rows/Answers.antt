@@ -1,8 +1,8 @@
 use Rattle.std.proofs.Common.{◌∙◌, subst, sym, ap, arith, map}
 use Rattle.std.specs.Prelude.{IsTrue}
+use Rattle.common_laws.proofs.Options.{if_err_is}
 use Rattle.old_manifest.specs.Rows.{old_suits}
 use Rattle.database.specs.Cells.{row_keys}
-use Rattle.db_old_reading.proofs.OldRowsRead.{err_is}
 use Rattle.db_old_reading.specs.Kept.{row_of}
 use Rattle.db_old_reading.specs.Told.{AreRead}
 use Rattle.db_old_reading.proofs.OldRowsRead.{all_at, one_more, row_more, stop_at_row}
@@ -10,7 +10,7 @@ use Rattle.db_old_reading.proofs.reading.read_rows.Goals as goal
 
 pub returns-in_err-cell-clause-first : goal.returns-in_err-cell-clause-first
 returns-in_err-cell-clause-first g c =
-    err_is c.from_residual.result _ _ c.from_residual.ensures.1 (λ files is.
+    if_err_is c.from_residual.result _ _ c.from_residual.ensures.1 (λ files is.
     stop_at_row files c.args.version c.args.staged c.args.rows.now c.loop-row.row-index c.row-item.result _ _ c.loop-row-test.true c.row-item.is (c.loop-row.invariant.read files is) c.loop-row.invariant.rows (c.in_err-cell.ensures.shown files (c.loop-row.invariant.same ∙ is)))
 
 pub loop-row-preserved : goal.loop-row-preserved
