@@ -1,12 +1,14 @@
 -- What hides a corner.
 use Rattle.std.proofs.Common.{◌≡◌, ℕ, ◌+◌, ◌*◌, ◌-◌, ◌≤◌, ◌^◌, ◌∙◌, ap, refl, sym, arith, Fits, Bool, true, false, ◌&&◌, [], ◌∷◌}
 use Rattle.std.proofs.lemmas.Int.{ints, clamps}
-use Rattle.std.proofs.lemmas.Int.{unsigned_abs-mul}
 use Rattle.std.proofs.Math.Nat.{mul-le-mul}
 use Rattle.std.specs.Prelude.{ℤ, pos, negsuc, ◌+ℤ◌, ◌-ℤ◌, ◌*ℤ◌, ◌≤ℤ◌, ◌<ℤ◌, int_le, nat_le, unsigned_abs}
 use lib.Signed.{lt_z}
 use mir.Syntax.{w128}
 use Rattle.std.specs.Int.{int_max}
+use Rattle.std.proofs.lemmas.Bool.{and_parts}
+use Rattle.common_laws.proofs.Orders.{test_from_at_most, at_most_from_test}
+use Rattle.common_laws.proofs.Sizes.{size_product}
 use Rattle.polynomial.proofs.Expressions.{Expr, var, num, add, sub, mul}
 use Rattle.polynomial.proofs.NormalForm.{by_ring}
 use Rattle.polynomial.proofs.Signs.{times_nonneg, times_pos, factor_nonneg}
@@ -98,18 +100,8 @@ cross_is c p = (nat_products (length_squared p) (length_squared c) (dot c p) (le
     (length_nonneg p) (length_nonneg c) (length_nonneg (cross c p)) (lagrange c p)).1
 
 -- ---- the test, part by part
-int_le_yes : (m n : ℤ) → m ≤ℤ n → int_le m n ≡ true
-int_le_yes m n h = grind (arith, ints, h)
-
 int_le_no : (m n : ℤ) → n <ℤ m → int_le m n ≡ false
 int_le_no m n h = grind (arith, ints, h)
-
-pub at_most : (m n : ℤ) → int_le m n ≡ true → m ≤ℤ n
-at_most m n e = grind (arith, ints)
-
-pub both_true : (a b : Bool) → (a && b) ≡ true → (a ≡ true) × (b ≡ true)
-both_true true b e = (refl, e)
-both_true false b e = absurd (let z = e in cc)
 
 first_false : (a b : Bool) → a ≡ false → false ≡ (a && b)
 first_false a b e = rw e refl
@@ -149,7 +141,7 @@ pub near_test : (c p : Vector) (m : ℕ) → length_squared p ≤ℤ pos (2 ^ 36
     * (unsigned_abs (length_squared p) * unsigned_abs (length_squared c) - unsigned_abs (dot c p) * unsigned_abs (dot c p)))
     ((unsigned_abs (reach m c p) * unsigned_abs (reach m c p)) * 2 ^ 36) ≡ hides_of c p m
 unfolding hides_of
-near_test c p m h k l = three_true _ _ _ _ _ (int_le_yes _ _ h) (int_le_yes _ _ k) (int_le_yes _ _ l)
+near_test c p m h k l = three_true _ _ _ _ _ (test_from_at_most _ _ h) (test_from_at_most _ _ k) (test_from_at_most _ _ l)
     (nat_test (int_max (length_squared p -ℤ pos (2 ^ 36)) (pos 0)) (length_squared (cross c p)) (reach m c p) (m * m) _
     (max_nonneg (length_squared p -ℤ pos (2 ^ 36))) l (cross_is c p))
 
@@ -157,20 +149,20 @@ near_test c p m h k l = three_true _ _ _ _ _ (int_le_yes _ _ h) (int_le_yes _ _ 
 pub hides_is : (c p : Vector) (m : ℕ) → hides_of c p m ≡ true → Hides m c p
 unfolding hides_of
 hides_is c p m e =
-    let a = both_true (int_le (length_squared p) (pos (2 ^ 36 + 2 ^ 29))) _ e in
-    let b = both_true (int_le (length_squared c) (pos (2 ^ 36 + 2 ^ 29))) _ a.1 in
-    let d = both_true (int_le (pos 0) (reach m c p)) _ b.1 in
+    let a = and_parts (int_le (length_squared p) (pos (2 ^ 36 + 2 ^ 29))) _ e in
+    let b = and_parts (int_le (length_squared c) (pos (2 ^ 36 + 2 ^ 29))) _ a.1 in
+    let d = and_parts (int_le (pos 0) (reach m c p)) _ b.1 in
     record {
-      corner = at_most _ _ a.0;
-      centre = at_most _ _ b.0;
-      above = at_most _ _ d.0;
-      beyond = at_most _ _ d.1;
+      corner = at_most_from_test _ _ a.0;
+      centre = at_most_from_test _ _ b.0;
+      above = at_most_from_test _ _ d.0;
+      beyond = at_most_from_test _ _ d.1;
     }
 
 pub hides_back : (c p : Vector) (m : ℕ) → Hides m c p → hides_of c p m ≡ true
 unfolding hides_of
-hides_back c p m h = sym (three_true _ _ _ _ _ (int_le_yes _ _ h.corner) (int_le_yes _ _ h.centre) (int_le_yes _ _ h.above)
-    (sym (int_le_yes _ _ h.beyond)))
+hides_back c p m h = sym (three_true _ _ _ _ _ (test_from_at_most _ _ h.corner) (test_from_at_most _ _ h.centre) (test_from_at_most _ _ h.above)
+    (sym (test_from_at_most _ _ h.beyond)))
 
 -- ---- the condition rises with the multiple
 
@@ -265,14 +257,11 @@ needed_fits e m x h k l = omega (arith, needed_most e m x h k l)
 pub needed_few : (e m x : ℕ) → e ≤ 2 ^ 29 → m ≤ 4096 → x ≤ 2 ^ 73 → Fits w128 ((e * (m * m)) * x + 68719476735)
 needed_few e m x h k l = omega (arith, needed_most e m x h k l)
 
-times_few : (a b : ℤ) (m n : ℕ) → unsigned_abs a ≤ m → unsigned_abs b ≤ n → unsigned_abs (a *ℤ b) ≤ m * n
-times_few a b m n h k = let e = unsigned_abs-mul a b in omega (arith, e, mul-le-mul h k)
-
 pub product_few : (a b : ℤ) → unsigned_abs a ≤ 2 ^ 21 → unsigned_abs b ≤ 2 ^ 21 → unsigned_abs (a *ℤ b) ≤ 2 ^ 42
-product_few a b h k = omega (arith, times_few a b (2 ^ 21) (2 ^ 21) h k)
+product_few a b h k = omega (arith, size_product a b (2 ^ 21) (2 ^ 21) h k)
 
 pub multiple_few : (m : ℕ) (a : ℤ) → m ≤ 4096 → unsigned_abs a ≤ 2 ^ 37 → unsigned_abs (pos m *ℤ a) ≤ 2 ^ 49
-multiple_few m a h k = omega (arith, times_few (pos m) a 4096 (2 ^ 37) h k)
+multiple_few m a h k = omega (arith, size_product (pos m) a 4096 (2 ^ 37) h k)
 
 pub over_few : (m : ℕ) (a b : ℤ) → m ≤ 4096 → unsigned_abs a ≤ 2 ^ 37 → unsigned_abs b ≤ 2 ^ 37
     → unsigned_abs (pos m *ℤ a -ℤ pos 256 *ℤ b) ≤ 2 ^ 50

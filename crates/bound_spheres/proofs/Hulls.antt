@@ -7,14 +7,11 @@ use Rattle.std.proofs.lemmas.List.Sums.{fold_more}
 use lib.ListN.{get_or, take}
 use Rattle.std.specs.Prelude.{◌⊎◌, ℤ, ◌≤ℤ◌, fold, unsigned_abs}
 use Rattle.std.specs.Int.{int_min, int_max}
+use Rattle.common_laws.proofs.Extremes.{min_at_most_both, both_at_most_max}
 use Rattle.ecef_boxes.specs.declared.ecef_box.EcefBox.{EcefBox}
 use Rattle.ecef_boxes.specs.Bounds.{IsBoxWithin}
+use Rattle.ecef_boxes.proofs.Ends.{same_box}
 use Rattle.bound_spheres.specs.Hull.{IsLeast, IsGreatest, IsHull, join_of}
-
-same_box : (a b c d e f : ℤ) (box : EcefBox) → a ≡ box.x_lo → b ≡ box.x_hi → c ≡ box.y_lo → d ≡ box.y_hi
-    → e ≡ box.z_lo → f ≡ box.z_hi
-    → ◌≡◌ {A = EcefBox} (record { x_lo = a; x_hi = b; y_lo = c; y_hi = d; z_lo = e; z_hi = f }) box
-same_box a b c d e f box p q r s t u = rw (p, q, r, s, t, u) refl
 
 pub join_is : (p q : EcefBox) (a b c d e f : ℤ) → a ≡ int_min p.x_lo q.x_lo → b ≡ int_max p.x_hi q.x_hi
     → c ≡ int_min p.y_lo q.y_lo → d ≡ int_max p.y_hi q.y_hi → e ≡ int_min p.z_lo q.z_lo
@@ -76,12 +73,6 @@ either_min p q = by_lt_z p q (λ h. inl (omega (arith, ints, clamps, h))) (λ h.
 either_max : (p q : ℤ) → (int_max p q ≡ p) ⊎ (int_max p q ≡ q)
 either_max p q = by_lt_z p q (λ h. inr (omega (arith, ints, clamps, h))) (λ h. inl (omega (arith, ints, clamps, h)))
 
-min_two : (p q : ℤ) → (int_min p q ≤ℤ p) × (int_min p q ≤ℤ q)
-min_two p q = omega (arith, ints, clamps)
-
-max_two : (p q : ℤ) → (p ≤ℤ int_max p q) × (q ≤ℤ int_max p q)
-max_two p q = omega (arith, ints, clamps)
-
 least_of_fold : (read : EcefBox → ℤ) → ((a b : EcefBox) → read (join_of a b) ≡ int_min (read a) (read b))
     → (a : EcefBox) (xs : List EcefBox) → Contains xs a → IsLeast read xs (read (fold join_of a xs))
 least_of_fold read step a xs h =
@@ -89,9 +80,9 @@ least_of_fold read step a xs h =
     let same : (n : ℤ) → R n n = λ n. omega (arith, ints) in
     let chain : (m n o : ℤ) → R m n → R n o → R m o = λ m n o p q. omega (arith, ints, p, q) in
     let left : (a b : EcefBox) → R (read (join_of a b)) (read a) = λ a b. rw (step a b)
-    (min_two (read a) (read b)).0 in
+    (min_at_most_both (read a) (read b)).0 in
     let right : (a b : EcefBox) → R (read (join_of a b)) (read b) = λ a b. rw (step a b)
-    (min_two (read a) (read b)).1 in
+    (min_at_most_both (read a) (read b)).1 in
     let one : (a b : EcefBox) → (read (join_of a b) ≡ read a) ⊎ (read (join_of a b) ≡ read b) = λ a b. rw
     (step a b) (either_min (read a) (read b)) in
     let some = has read R same chain left right one a xs h in
@@ -109,9 +100,9 @@ greatest_of_fold read step a xs h =
     let same : (n : ℤ) → R n n = λ n. omega (arith, ints) in
     let chain : (m n o : ℤ) → R m n → R n o → R m o = λ m n o p q. omega (arith, ints, p, q) in
     let left : (a b : EcefBox) → R (read (join_of a b)) (read a) = λ a b. rw (step a b)
-    (max_two (read a) (read b)).0 in
+    (both_at_most_max (read a) (read b)).0 in
     let right : (a b : EcefBox) → R (read (join_of a b)) (read b) = λ a b. rw (step a b)
-    (max_two (read a) (read b)).1 in
+    (both_at_most_max (read a) (read b)).1 in
     let one : (a b : EcefBox) → (read (join_of a b) ≡ read a) ⊎ (read (join_of a b) ≡ read b) = λ a b. rw
     (step a b) (either_max (read a) (read b)) in
     let some = has read R same chain left right one a xs h in

@@ -1,7 +1,7 @@
 -- The least multiple that hides all corners, one box after another.
 use Rattle.std.proofs.Common.{◌≡◌, ℕ, zero, suc, ◌+◌, ◌<◌, ◌≤◌, ◌∙◌, ap, refl, sym, subst, arith, inl, inr, Bool, true, false, ◌&&◌, cond}
 use Rattle.std.proofs.Common.{List, [], ◌∷◌, ◌++◌, length, take_all, All}
-use Rattle.std.proofs.lemmas.Bool.{cases_lt}
+use Rattle.std.proofs.lemmas.Bool.{cases_lt, and_parts, and_from}
 use Rattle.std.proofs.lemmas.List.{take_more}
 use Rattle.std.proofs.lemmas.Grind.{flat_map-append}
 use Rattle.std.proofs.lemmas.List.Elements.{All-nil, All-cons, All-head, All-tail}
@@ -13,7 +13,7 @@ use Rattle.ecef_boxes.specs.declared.ecef_box.EcefBox.{EcefBox}
 use Rattle.bound_spheres.specs.declared.sphere.Sphere.{Sphere}
 use Rattle.bound_spheres.specs.declared.scaled.Vector.{Vector}
 use Rattle.bound_spheres.specs.Horizon.{Hides, IsHorizon, hides_of, horizon_of, scaled_centre, scaled_corners}
-use Rattle.bound_spheres.proofs.Horizons.{both_true, hides_back, hides_is, rises_test}
+use Rattle.bound_spheres.proofs.Horizons.{hides_back, hides_is, rises_test}
 
 -- ---- the first number of a range that passes a test
 
@@ -68,9 +68,6 @@ finds_none p a n (Some i) f b = clash (p i) f.2 (b i f.0 f.1)
 abbrev all_at : Vector → List Vector → ℕ → Bool
 all_at c ps m = list_all (λ p. hides_of c p m) ps
 
-pub and_true : (a b : Bool) → a ≡ true → b ≡ true → (a && b) ≡ true
-and_true a b h k = rw (h, k) refl
-
 first_no : (a b : Bool) → a ≡ false → (a && b) ≡ false
 first_no a b h = rw h refl
 
@@ -81,18 +78,18 @@ second_no false b h = refl
 all_rise : (c : Vector) (m k : ℕ) (ps : List Vector) → 1 ≤ m → m ≤ k → all_at c ps m ≡ true → all_at c ps k ≡ true
 all_rise c m k [] h l e = refl
 all_rise c m k (p ∷ ps) h l e =
-    let b = both_true (hides_of c p m) (all_at c ps m) e in
-    and_true (hides_of c p k) (all_at c ps k) (rises_test c p m k h l b.0) (all_rise c m k ps h l b.1)
+    let b = and_parts (hides_of c p m) (all_at c ps m) e in
+    and_from (hides_of c p k) (all_at c ps k) (rises_test c p m k h l b.0) (all_rise c m k ps h l b.1)
 
 all_hidden : (c : Vector) (m : ℕ) (ps : List Vector) → all_at c ps m ≡ true → All (λ p. Hides m c p) ps
 all_hidden c m [] e = All-nil _
 all_hidden c m (p ∷ ps) e =
-    let b = both_true (hides_of c p m) (all_at c ps m) e in
+    let b = and_parts (hides_of c p m) (all_at c ps m) e in
     All-cons (λ q. Hides m c q) p ps (hides_is c p m b.0) (all_hidden c m ps b.1)
 
 all_back : (c : Vector) (m : ℕ) (ps : List Vector) → All (λ p. Hides m c p) ps → all_at c ps m ≡ true
 all_back c m [] h = refl
-all_back c m (p ∷ ps) h = and_true (hides_of c p m) (all_at c ps m) (hides_back c p m (All-head (λ q. Hides m c q) p ps h))
+all_back c m (p ∷ ps) h = and_from (hides_of c p m) (all_at c ps m) (hides_back c p m (All-head (λ q. Hides m c q) p ps h))
     (all_back c m ps (All-tail (λ q. Hides m c q) p ps h))
 
 -- ---- one box after another
@@ -119,7 +116,7 @@ risen_more c ps qs m n r h l e b = record {
   low = (let low = r.low in omega (arith, low, h));
   high = l;
   hidden = λ few. list_all-append (λ p. hides_of c p n) ps qs
-      ∙ and_true (all_at c ps n) (all_at c qs n)
+      ∙ and_from (all_at c ps n) (all_at c qs n)
       (all_rise c m n ps (let low = r.low in omega (arith, low)) h (r.hidden (omega (arith, h, few)))) (e few);
   before = λ k i j. list_all-append (λ p. hides_of c p k) ps qs ∙ (elim (cases_lt k m) [
     | inl less ↦ first_no (all_at c ps k) (all_at c qs k) (r.before k i less)
@@ -185,7 +182,7 @@ horizon_is sphere boxes = said sphere boxes _ (finds (all_at (scaled_centre sphe
 -- ---- for the code's loops
 pub all_next : (p : Vector → Bool) (xs : List Vector) (i : ℕ) (d : Vector) (b : Bool) → i < length xs → list_all p (take i xs) ≡ true
     → b ≡ p (get_or xs i d) → b ≡ true → list_all p (take (i + 1) xs) ≡ true
-all_next p xs i d b h e f g = list_all_more p xs i d h ∙ and_true (list_all p (take i xs)) (p (get_or xs i d)) e (sym f ∙ g)
+all_next p xs i d b h e f g = list_all_more p xs i d h ∙ and_from (list_all p (take i xs)) (p (get_or xs i d)) e (sym f ∙ g)
 
 pub all_end : (p : Vector → Bool) (xs : List Vector) (i : ℕ) → length xs ≤ i → list_all p (take i xs) ≡ true → true ≡ list_all p xs
 all_end p xs i h e = sym e ∙ ap (λ ys. list_all p ys) (take_all i xs h)

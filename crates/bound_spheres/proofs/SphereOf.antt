@@ -71,7 +71,7 @@ unfolding sphere_of
 sphere_of_is [] h = absurd (omega (arith, h))
 sphere_of_is (box ∷ boxes) h = sphere_by (box ∷ boxes) (fold join_of box (box ∷ boxes)) (hull_of_all box boxes)
 
-wide_box : (box : EcefBox) → IsBoxWithin 31 box → IsBoxWithin 33 box
+pub wide_box : (box : EcefBox) → IsBoxWithin 31 box → IsBoxWithin 33 box
 wide_box box h = record {
   x_lo = omega (arith, h.x_lo);
   x_hi = omega (arith, h.x_hi);

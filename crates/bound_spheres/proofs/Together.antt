@@ -5,16 +5,16 @@ use Rattle.std.proofs.lemmas.List.Elements.{All-nil, All-more, All-weaker, All-h
 use lib.ListN.{get_or, take}
 use Rattle.std.specs.Prelude.{ℤ, pos, negsuc, ◌+ℤ◌, ◌-ℤ◌, ◌*ℤ◌, ◌≤ℤ◌, nat_le, unsigned_abs}
 use Rattle.std.specs.Int.{int_max, int_min}
-use Rattle.std.specs.Ordering.{int_cmp, ord_min, ord_max}
 use Rattle.std.specs.List.{list_all}
+use Rattle.std.proofs.lemmas.Bool.{and_from}
+use Rattle.common_laws.proofs.Orders.{at_most_from_test}
 use Rattle.polynomial.proofs.Expressions.{var, num, add, sub, mul}
 use Rattle.polynomial.proofs.NormalForm.{by_ring}
 use Rattle.polynomial.proofs.Signs.{times_nonneg}
 use Rattle.bound_spheres.specs.declared.scaled.Vector.{Vector}
 use Rattle.bound_spheres.specs.Horizon.{Bounds, Hides, hides_of, cross, dot, length_squared, reach}
-use Rattle.bound_spheres.proofs.Horizons.{at_most, hides_back, lagrange, length_nonneg, max_nonneg, nat_test, squares}
+use Rattle.bound_spheres.proofs.Horizons.{hides_back, lagrange, length_nonneg, max_nonneg, nat_test, squares}
 use Rattle.bound_spheres.proofs.Farthest.{square_is}
-use Rattle.bound_spheres.proofs.Rising.{and_true}
 
 -- the test of a corner of which only the square of its length and its product with the centre are known
 pub record HidesBy (m : ℕ) (c : Vector) (square product : ℤ) : Type 0 where
@@ -96,7 +96,7 @@ pub all_hidden_by : (m : ℕ) (c : Vector) (ps : List Vector) (square product : 
     → list_all (λ p. hides_of c p m) ps ≡ true
 all_hidden_by m c [] square product h shorter farther = refl
 all_hidden_by m c (p ∷ ps) square product h shorter farther =
-    and_true (hides_of c p m) (list_all (λ q. hides_of c q m) ps)
+    and_from (hides_of c p m) (list_all (λ q. hides_of c q m) ps)
     (hides_back c p m (one_hidden m c p square product h (All-head (λ q. length_squared q ≤ℤ square) p ps shorter)
     (All-head (λ q. product ≤ℤ dot c q) p ps farther)))
     (all_hidden_by m c ps square product h (All-tail (λ q. length_squared q ≤ℤ square) p ps shorter)
@@ -127,18 +127,12 @@ by_naturals m c square product low near close along above narrow test =
       centre = close;
       along = along;
       above = above;
-      beyond = at_most _ _ (sym (nat_test (int_max (square -ℤ pos (2 ^ 36)) (pos 0))
+      beyond = at_most_from_test _ _ (sym (nat_test (int_max (square -ℤ pos (2 ^ 36)) (pos 0))
           ((square *ℤ length_squared c) -ℤ (product *ℤ product)) over (m * m) _ (max_nonneg (square -ℤ pos (2 ^ 36))) above
           (difference_is square (length_squared c) product low (length_nonneg c) narrow)) ∙ test);
     }
 
 -- ---- for the code's loop
-pub lesser_is : (a b : ℤ) → ord_min int_cmp a b ≡ int_min a b
-lesser_is a b = grind (arith, ints)
-
-pub greater_is : (a b : ℤ) → ord_max int_cmp a b ≡ int_max a b
-greater_is a b = grind (arith, ints)
-
 pub bounds_first : (c : Vector) (square product : ℤ) → Bounds c [] square product
 bounds_first c square product = record { squares = All-nil _; products = All-nil _ }
 
