@@ -1,7 +1,8 @@
 -- Places, columns and windows.
-use Rattle.std.proofs.Common.{◌≡◌, ℕ, ◌+◌, ◌≤◌, ◌<◌, max, arith, refl, inl, inr, subst, sym, ap, ◌∙◌}
+use Rattle.std.proofs.Common.{◌≡◌, ℕ, ◌+◌, ◌≤◌, max, arith, refl, inl, inr, subst, sym, ap, ◌∙◌}
 use Rattle.std.specs.Prelude.{◌↔◌, ℤ, pos, ◌-ℤ◌, ◌*ℤ◌, unsigned_abs}
-use Rattle.std.proofs.lemmas.Int.{ints, by_lt_z}
+use Rattle.std.proofs.lemmas.Int.{ints}
+use Rattle.common_laws.proofs.Orders.{by_last}
 use Rattle.terrain_base.specs.declared.cell_key.CellKey.{CellKey}
 use Rattle.terrain_base.specs.declared.post.Post.{Post}
 use Rattle.terrain_base.specs.declared.post.Post.TheVariants.{Void, Metres}
@@ -20,9 +21,6 @@ pub tile_point : (east north : Axis) (col row : ℕ) (u v : ℤ) → IsOnSide ea
 tile_point east north col row u v e n h k p q =
     let w = e.least col h in let x = e.greatest col h in let y = n.least row k in let z = n.greatest row k in
     record { west = omega (arith, ints, w, p); east = omega (arith, ints, x, p); south = omega (arith, ints, y, q); north = omega (arith, ints, z, q) }
-
-by_last : {X : Type 0} (i n : ℕ) → i < n + 1 → (i < n → X) → (i ≡ n → X) → X
-by_last i n h f g = by_lt_z (pos i) (pos n) (λ l. f (omega (arith, ints, l))) (λ l. g (omega (arith, ints, l)))
 
 module _ (cells : Cells) (key : CellKey) (col : ℕ) (t : Tri) (u : ℤ) (north : Axis) where
   -- one row more
