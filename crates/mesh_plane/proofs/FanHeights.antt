@@ -95,7 +95,8 @@ module _ {A : Type 0} (at : A → Point) (z : A → ℤ) where
         (inside_of g side) (only_gap r (at c) side) (gap_above r (only (at c)) (only_inner r (at c) i) side)
         (begins_across at r c g i ring side) (follows at r c g i ring side)
 
-    tiled : (side : Side) → Tiling at (SectorOf r (only (at c)) side) (OpenSectorOf r (only (at c)) side) (fan_on c g side)
+    tiled : (side : Side)
+        → Tiling at (SectorOf r (only (at c)) side) (OpenSectorOf r (only (at c)) side) (fan_on c g side)
     tiled side = side_tiles at r c g i ring side
 
     first : (side : Side) → HasEdge at z (begins g side) c (fan_on c g side)
@@ -140,7 +141,7 @@ module _ {A : Type 0} (at : A → Point) (z : A → ℤ) where
   fan_one p r c g i ring =
       let one = one_level r c g i ring p in let near = beside r c g i ring p in
       subst (λ (us : List (Triple A)). OneLevel at z p us) (fan_sides at c g)
-      (four_levels at z p (fan_on c g South) (fan_on c g East) (fan_on c g North) (fan_on c g West) (one South) (one East)
-      (one North) (one West) (near South) (south_north r c g i ring p)
+      (four_levels at z p (fan_on c g South) (fan_on c g East) (fan_on c g North) (fan_on c g West) (one South)
+      (one East) (one North) (one West) (near South) (south_north r c g i ring p)
       (cross_sym at z p (fan_on c g West) (fan_on c g South) (near West)) (near East) (east_west r c g i ring p)
       (near North))

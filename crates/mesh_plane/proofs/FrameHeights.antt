@@ -152,12 +152,14 @@ module _ {A : Type 0} (at : A → Point) where
       south_north : Cross at z p (list South) (list North)
       south_north =
           cross_when at z p (list South) (list North)
-          (λ a b. absurd (omega (arith, ints, high, ((tiled South).within p a).below, ((tiled North).within p b).below)))
+          (λ a b. let near = ((tiled South).within p a).below in
+          absurd (omega (arith, ints, high, near, ((tiled North).within p b).below)))
 
       east_west : Cross at z p (list East) (list West)
       east_west =
           cross_when at z p (list East) (list West)
-          (λ a b. absurd (omega (arith, ints, wide, ((tiled East).within p a).below, ((tiled West).within p b).below)))
+          (λ a b. let near = ((tiled East).within p a).below in
+          absurd (omega (arith, ints, wide, near, ((tiled West).within p b).below)))
 
       -- ---- a strip and the inner rectangle
       -- the inner line of a strip goes from corner to corner

@@ -116,7 +116,8 @@ module _ {A : Type 0} (at : A → Point) where
         (fan_is c o (xs ++ e ∷ []))
         (tiling_moved at at shifted (λ p. p) (shifted_alike at) (SectorOf r q side) (OpenSectorOf r q side) ts
         (band_sector at h (inset r (before side)) (inset r (next side)) (turn (at o) (at c)) (turn (at e) (at c)) m
-        (gap r q (before side)) (gap r q (next side)) ts (λ p. ray side p ∙ corner_turn r q side p) (λ p. ray (next side) p ∙ corner_end r q side p)
+        (gap r q (before side)) (gap r q (next side)) ts (λ p. ray side p ∙ corner_turn r q side p)
+        (λ p. ray (next side) p ∙ corner_end r q side p)
         (outers_tile at h m c o e xs (gap_above r q (only_inner r (at c) i) side)
         (no_reach side (border side r) (at o) (begins_across side)) (only_gap r (at c) side)
         (follow_moves at side (border side r) m c o (xs ++ e ∷ []) (begins_across side) (follows side)))))

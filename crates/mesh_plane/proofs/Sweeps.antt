@@ -8,7 +8,7 @@ use Rattle.polynomial.proofs.Signs.{times_nonneg, times_pos, factor_nonneg, fact
 use Rattle.mesh_plane.specs.Plane.{Point}
 use Rattle.mesh_plane.specs.Triangles.{Triple, Step, Outer, Inner, outer_end, inner_end}
 use Rattle.mesh_plane.proofs.Turns.{turn, turned_back, turned_on, three_sides}
-use Rattle.mesh_plane.proofs.Tilings.{Tiling, tiling_append, tiling_one}
+use Rattle.mesh_plane.proofs.Tilings.{area, Within, Inside, Tiling, tiling_append, tiling_same, tiling_one}
 
 -- from a to b along a line from which h grows to the left
 pub record Goes (h : Point → ℤ) (a b : Point) : Type 0 where
@@ -16,8 +16,8 @@ pub record Goes (h : Point → ℤ) (a b : Point) : Type 0 where
   pub far : pos 0 <ℤ w
   pub turns : (p : Point) → turn a b p ≡ w *ℤ h p
 
--- from 0 to m, and between two segments: x is how far inside of the outer line the point lies, `first` and `last` are the
--- turns about the segments
+-- from 0 to m, and between two segments: x is how far inside of the outer line the point lies, `first` and `last` are
+-- the turns about the segments
 pub record Between (x m first last : ℤ) : Type 0 where
   pub above : pos 0 ≤ℤ x
   pub below : x ≤ℤ m
@@ -92,80 +92,53 @@ module _ {A : Type 0} (at : A → Point) where
   abbrev pub OpenBand : (Point → ℤ) → ℤ → A → A → A → A → Point → Type 0
   OpenBand h m o n o' n' p = StrictlyBetween (h p) m (turn (at o) (at n) p) (turn (at o') (at n') p)
 
+  -- one step, of which the third side lies on a line: k is how far inside of that line a point lies, and `after` the turn
+  -- about the next segment
+  step_tiles : (k after : Point → ℤ) (m w : ℤ) (o n x : A) → pos 0 <ℤ w → pos 0 <ℤ m
+      → let t : Triple A = record { a = o; b = x; c = n } in
+      area at t ≡ w *ℤ m → ((p : Point) → (w *ℤ k p +ℤ after p) -ℤ turn (at o) (at n) p ≡ w *ℤ m)
+      → ((p : Point) → Within at t p → (pos 0 ≤ℤ (w *ℤ k p)) × (pos 0 ≤ℤ after p))
+      → ((p : Point) → pos 0 ≤ℤ (w *ℤ k p) → pos 0 ≤ℤ after p → pos 0 ≤ℤ turn (at n) (at o) p → Within at t p)
+      → ((p : Point) → Inside at t p → (pos 0 <ℤ (w *ℤ k p)) × (pos 0 <ℤ after p))
+      → Tiling at (λ p. Between (k p) m (turn (at o) (at n) p) (after p))
+      (λ p. StrictlyBetween (k p) m (turn (at o) (at n) p) (after p)) (t ∷ [])
+  step_tiles k after m w o n x far hm size sum held holds inside =
+      tiling_one at (λ p. Between (k p) m (turn (at o) (at n) p) (after p))
+      (λ p. StrictlyBetween (k p) m (turn (at o) (at n) p) (after p)) (record { a = o; b = x; c = n })
+      (omega (arith, ints, size, times_pos w m far hm))
+      (λ p i.
+      let first : turn (at o) (at n) p ≤ℤ pos 0 = omega (arith, ints, i.ca, turned_back (at o) (at n) p) in
+      let j = step_in (turn (at o) (at n) p) (after p) w (k p) m far (sum p) (held p i).0 (held p i).1 first in
+      record { above = j.0; below = j.1; right = first; left = (held p i).1 })
+      (λ p i. holds p (times_nonneg w (k p) (weaken far) i.above) i.left
+      (omega (arith, ints, i.right, turned_back (at o) (at n) p)))
+      (λ p i.
+      let first : turn (at o) (at n) p <ℤ pos 0 = omega (arith, ints, i.ca, turned_back (at o) (at n) p) in
+      let j = step_inside (turn (at o) (at n) p) (after p) w (k p) m far (sum p) (inside p i).0 (inside p i).1 first in
+      record { above = j.0; below = j.1; right = first; left = (inside p i).1 })
+
   outer_one : (h : Point → ℤ) (m : ℤ) (o n x : A) → pos 0 <ℤ m → h (at n) ≡ m → Goes h (at o) (at x)
       → Tiling at (Band h m o n x n) (OpenBand h m o n x n) (record { a = o; b = x; c = n } ∷ [])
   outer_one h m o n x hm hn g =
-      tiling_one at (Band h m o n x n) (OpenBand h m o n x n) (record { a = o; b = x; c = n })
-      (let a : turn (at o) (at x) (at n) ≡ g.w *ℤ m = g.turns (at n) ∙ ap (λ z. g.w *ℤ z) hn in
-      omega (arith, ints, a, times_pos g.w m g.far hm))
-      (λ p i.
-      let k : (pos 0 ≤ℤ h p) × (h p ≤ℤ m) =
-      step_in (turn (at o) (at n) p) (turn (at x) (at n) p) g.w (h p) m g.far
-      (outer_sum h m (at o) (at n) (at x) g hn p) (omega (arith, ints, i.ab, g.turns p)) i.bc
-      (omega (arith, ints, i.ca, turned_back (at o) (at n) p)) in
-      record {
-        above = k.0;
-        below = k.1;
-        right = omega (arith, ints, i.ca, turned_back (at o) (at n) p);
-        left = i.bc;
-      })
-      (λ p i. record {
-        ab = omega (arith, ints, g.turns p, times_nonneg g.w (h p) (weaken g.far) i.above);
-        bc = i.left;
-        ca = omega (arith, ints, i.right, turned_back (at o) (at n) p);
-      })
-      (λ p i.
-      let k : (pos 0 <ℤ h p) × (h p <ℤ m) =
-      step_inside (turn (at o) (at n) p) (turn (at x) (at n) p) g.w (h p) m g.far
-      (outer_sum h m (at o) (at n) (at x) g hn p) (omega (arith, ints, i.ab, g.turns p)) i.bc
-      (omega (arith, ints, i.ca, turned_back (at o) (at n) p)) in
-      record {
-        above = k.0;
-        below = k.1;
-        right = omega (arith, ints, i.ca, turned_back (at o) (at n) p);
-        left = i.bc;
-      })
+      step_tiles h (turn (at x) (at n)) m g.w o n x g.far hm (g.turns (at n) ∙ ap (λ z. g.w *ℤ z) hn)
+      (outer_sum h m (at o) (at n) (at x) g hn)
+      (λ p i. (omega (arith, ints, i.ab, g.turns p), i.bc))
+      (λ p a b c. record { ab = omega (arith, ints, a, g.turns p); bc = b; ca = c })
+      (λ p i. (omega (arith, ints, i.ab, g.turns p), i.bc))
 
   inner_one : (h : Point → ℤ) (m : ℤ) (o n x : A) → pos 0 <ℤ m → h (at o) ≡ pos 0
       → Goes (λ p. m -ℤ h p) (at x) (at n)
       → Tiling at (Band h m o n o x) (OpenBand h m o n o x) (record { a = o; b = x; c = n } ∷ [])
   inner_one h m o n x hm ho g =
-      tiling_one at (Band h m o n o x) (OpenBand h m o n o x) (record { a = o; b = x; c = n })
-      (omega (arith, ints, inner_area h m (at o) (at n) (at x) g ho, times_pos g.w m g.far hm))
-      (λ p i.
-      let k : (pos 0 ≤ℤ (m -ℤ h p)) × ((m -ℤ h p) ≤ℤ m) =
-      step_in (turn (at o) (at n) p) (turn (at o) (at x) p) g.w
-      (m -ℤ h p) m g.far (inner_sum h m (at o) (at n) (at x) g ho p)
-      (omega (arith, ints, i.bc, g.turns p)) i.ab
-      (omega (arith, ints, i.ca, turned_back (at o) (at n) p)) in
-      record {
-        above = omega (arith, ints, k.1);
-        below = omega (arith, ints, k.0);
-        right = omega (arith, ints, i.ca, turned_back (at o) (at n) p);
-        left = i.ab;
-      })
-      (λ p i. record {
-        ab = i.left;
-        bc = omega (
-          arith,
-          ints,
-          g.turns p,
-          times_nonneg g.w (m -ℤ h p) (weaken g.far) (omega (arith, ints, i.below)),
-        );
-        ca = omega (arith, ints, i.right, turned_back (at o) (at n) p);
-      })
-      (λ p i.
-      let k : (pos 0 <ℤ (m -ℤ h p)) × ((m -ℤ h p) <ℤ m) =
-      step_inside (turn (at o) (at n) p) (turn (at o) (at x) p) g.w
-      (m -ℤ h p) m g.far (inner_sum h m (at o) (at n) (at x) g ho p)
-      (omega (arith, ints, i.bc, g.turns p)) i.ab
-      (omega (arith, ints, i.ca, turned_back (at o) (at n) p)) in
-      record {
-        above = omega (arith, ints, k.1);
-        below = omega (arith, ints, k.0);
-        right = omega (arith, ints, i.ca, turned_back (at o) (at n) p);
-        left = i.ab;
-      })
+      tiling_same at (λ p. Between (m -ℤ h p) m (turn (at o) (at n) p) (turn (at o) (at x) p))
+      (λ p. StrictlyBetween (m -ℤ h p) m (turn (at o) (at n) p) (turn (at o) (at x) p))
+      (Band h m o n o x) (OpenBand h m o n o x) (record { a = o; b = x; c = n } ∷ [])
+      (λ p i. omega (arith, ints, i)) (λ p i. omega (arith, ints, i)) (λ p i. omega (arith, ints, i))
+      (step_tiles (λ p. m -ℤ h p) (turn (at o) (at x)) m g.w o n x g.far hm (inner_area h m (at o) (at n) (at x) g ho)
+      (inner_sum h m (at o) (at n) (at x) g ho)
+      (λ p i. (omega (arith, ints, i.bc, g.turns p), i.ab))
+      (λ p a b c. record { ab = b; bc = omega (arith, ints, a, g.turns p); ca = c })
+      (λ p i. (omega (arith, ints, i.bc, g.turns p), i.ab)))
 
   -- between the lines, what is left of one segment is left of every later one
   pub grows : (h : Point → ℤ) (m : ℤ) (o n : A) (steps : List (Step A)) → h (at o) ≡ pos 0 → h (at n) ≡ m

@@ -168,7 +168,8 @@ module _ (grid : List ℤ) (s : ℤ) (h : pos 1 ≤ℤ s) where
 
     leaves_show : (side : Side) → Shows (at grid s) (height grid)
         (chain (inner_corner frame_corners (run_from side))
-        (map (inner_at side) (leaf_ends (border_split (is_split grid tol) side) 6 0))) (leaf_triangles (is_split grid tol))
+        (map (inner_at side) (leaf_ends (border_split (is_split grid tol) side) 6 0)))
+        (leaf_triangles (is_split grid tol))
     leaves_show South = rw (south_line grid tol) leaves_even_at.south
     leaves_show East = rw (east_line grid tol) leaves_even_at.east
     leaves_show North = rw (north_line grid tol) leaves_even_at.north
