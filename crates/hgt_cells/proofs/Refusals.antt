@@ -1,5 +1,31 @@
 -- Which files are refused, and where.
-use Rattle.std.proofs.Common.{◌≡◌, ℕ, ℤ, ◌+◌, ◌*◌, ◌/◌, ◌%◌, ◌<◌, Bool, pos, true, false, List, length, Option, Some, None, refl, sym, ap, ◌∙◌, subst, arith, inl, inr}
+use Rattle.std.proofs.Common.{
+  ◌≡◌,
+  ℕ,
+  ℤ,
+  ◌+◌,
+  ◌*◌,
+  ◌/◌,
+  ◌%◌,
+  ◌<◌,
+  Bool,
+  pos,
+  true,
+  false,
+  List,
+  length,
+  Option,
+  Some,
+  None,
+  refl,
+  sym,
+  ap,
+  ◌∙◌,
+  subst,
+  arith,
+  inl,
+  inr,
+}
 use Rattle.std.specs.Prelude.{not, ◌↔◌}
 use Rattle.std.specs.Option.{option_or}
 use Rattle.std.proofs.lemmas.Nat.{mul-add-lt}
@@ -79,7 +105,8 @@ none_bad bytes good =
 pub accepted : (bytes : List ℕ) → hgt_refusal_of bytes ≡ None → IsHgt bytes
 unfolding hgt_refusal_of conditions_of
 accepted bytes none =
-    let both = neither (BadLength (length bytes) when not (has_lines bytes)) (first_of (number_conditions bytes)) none in
+    let by_length = (BadLength (length bytes) when not (has_lines bytes)) in
+    let both = neither by_length (first_of (number_conditions bytes)) none in
     record { size = no_length bytes both.0; samples = all_good bytes both.1 }
 
 pub none_refused : (bytes : List ℕ) → IsHgt bytes → hgt_refusal_of bytes ≡ None
@@ -117,7 +144,9 @@ first_at bytes k inside bad earlier =
     let lines = lines_in bytes in
     let whole = div-add-mod k lines in
     let good : (j : ℕ) → j < k → IsSample (number_at bytes (2 * j)) =
-    λ j below. sample_good (number_at bytes (2 * j)) (not_when (refused_at bytes j) (is_bad bytes j) (earlier j below)) in
+    λ j below.
+    let passed = not_when (refused_at bytes j) (is_bad bytes j) (earlier j below) in
+    sample_good (number_at bytes (2 * j)) passed in
     record {
       line_within = line_within bytes k inside;
       place_within = mod-lt k (some_lines bytes);

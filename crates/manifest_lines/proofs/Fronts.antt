@@ -198,8 +198,13 @@ pub bad_row : {R : Type 0} (g : Grammar R) → IsGrammar g → (v : Version) (p 
     → IsBadRow g v count line rest → IsFirstBad g v line bytes
 bad_row g ok v p s count line rest bytes h bad = record {
   least = record {
-    before = λ n less. begins_before g v n (5 + bad.good) bytes (omega (arith, bad.numbered)) (begins_of_rows g v p s count bad.good rest bytes h bad.before);
-    here = λ b. bad.here (rows_of_begins g ok v p s count (bad.good + 1) rest bytes h (let even : line ≡ 5 + (bad.good + 1) = omega (arith, bad.numbered) in subst (λ k. Begins g v k bytes) even b));
+    before = λ n less.
+        let rows = begins_of_rows g v p s count bad.good rest bytes h bad.before in
+        begins_before g v n (5 + bad.good) bytes (omega (arith, bad.numbered)) rows;
+    here = λ b.
+        let even : line ≡ 5 + (bad.good + 1) = omega (arith, bad.numbered) in
+        let begins = subst (λ k. Begins g v k bytes) even b in
+        bad.here (rows_of_begins g ok v p s count (bad.good + 1) rest bytes h begins);
   };
   wrong = λ m good e. let t = text_is g ok v m p s count rest bytes h good e in bad.wrong m.rows (sym t.count) t.rows;
 }
