@@ -6,6 +6,7 @@ use Rattle.std.specs.FinSet.{contains}
 use Rattle.std.specs.List.{filter, list_any}
 use Rattle.std.specs.Ordering.{eq_by_cmp}
 use Rattle.std.proofs.lemmas.List.Folds.{list_any-append}
+use Rattle.std.proofs.lemmas.Bool.{false_from_ne_true}
 use Rattle.terrain_base.specs.declared.cell_key.CellKey.{CellKey}
 use Rattle.terrain_base.specs.declared.name.Key.TheVariants.{Manifest, Stage, Cell}
 use Rattle.terrain_base.specs.declared.store.Change.{Change}
@@ -26,7 +27,7 @@ use Rattle.database.specs.Commands.{Edit, PutCell, DropCell}
 use Rattle.database.specs.declared.answer.EngineAnswer.{EngineAnswer}
 use Rattle.database.specs.declared.answer.EngineAnswer.TheVariants as answer
 use Rattle.database.proofs.Given.{by_text_total}
-use Rattle.database.proofs.Tests.{is_name, name_other, name_self, key_same, false_of}
+use Rattle.database.proofs.Tests.{is_name, name_other, name_self, key_same}
 use Rattle.db_files.specs.Trouble.{IsShownTrouble, IsStopOrTrouble, OnlyStopsOrRowTrouble}
 use Rattle.db_files.proofs.Troubles.{stops_only, result_by}
 use Rattle.db_engine.specs.Edited.{EditTrouble}
@@ -85,7 +86,7 @@ told_before : (key : CellKey) (files now : Files) (keys keys' : Shapes) (t : Cel
 told_before key files now keys keys' t had held never is =
     let other = is.subject.key in
     let at_other = subst (λ bytes. ShowsAt other bytes t) (ap (get now) is.subject.name) (is.shown other is.subject.name) in
-    let apart : eq_by_cmp key_cmp other key ≡ false = false_of _ (λ e. never is other is.subject.known at_other (key_same other key e)) in
+    let apart : eq_by_cmp key_cmp other key ≡ false = false_from_ne_true _ (λ e. never is other is.subject.known at_other (key_same other key e)) in
     record {
       subject = record { key = other; known = had other apart is.subject.known; name = is.subject.name; opened = is.subject.opened };
       shown = λ k name. subst (λ bytes. ShowsAt k bytes t) (ap (get now) is.subject.name ∙ held other apart ∙ sym (ap (get files) is.subject.name)) (is.shown k name);
