@@ -1,36 +1,21 @@
 -- Windows far from the tile have no posts on it.
-use Rattle.std.proofs.Common.{◌≡◌, ℕ, Bool, true, false, ◌||◌, ◌&&◌, ◌+◌, ◌-◌, ◌*◌, ◌/◌, ◌%◌, ◌^◌, ◌≤◌, ◌<◌, arith, refl, sym, ap, ◌∙◌, subst, List, [], ◌∷◌}
-use Rattle.std.specs.Prelude.{nat_eq, ℤ, pos, negsuc, ◌+ℤ◌, ◌-ℤ◌, ◌*ℤ◌, ◌≤ℤ◌}
+use Rattle.std.proofs.Common.{◌≡◌, ℕ, true, ◌+◌, ◌*◌, ◌/◌, ◌^◌, ◌≤◌, ◌<◌, arith, refl, ap, ◌∙◌, subst, [], ◌∷◌}
+use Rattle.std.specs.Prelude.{ℤ, pos, negsuc, ◌+ℤ◌, ◌-ℤ◌, ◌*ℤ◌, ◌≤ℤ◌}
 use Rattle.std.proofs.Math.Nat.{div-add-mod'}
 use Rattle.std.proofs.lemmas.Int.{ints, by_lt_z}
-use Rattle.std.proofs.lemmas.Bool.{eq-eqb}
+use Rattle.std.proofs.lemmas.Bool.{eq-eqb, or_left, or_right, and_from}
 use Rattle.std.proofs.lemmas.Nat.{mul-le, pow-add}
-use Rattle.polynomial.proofs.Expressions.{var, num, sub, add, mul}
+use Rattle.polynomial.proofs.Expressions.{var, num, sub, mul}
 use Rattle.polynomial.proofs.NormalForm.{by_ring}
 use Rattle.polynomial.proofs.Signs.{factor_nonneg}
 use Rattle.terrain_base.specs.declared.cell_key.CellKey.{CellKey}
 use Rattle.terrain_base.specs.declared.tile.TileId.{TileId}
-use Rattle.terrain_base.specs.Level.{lon_step_of, lat_step_of, columns_of, rows_of}
+use Rattle.terrain_base.specs.Level.{lon_step_of, lat_step_of}
 use Rattle.tms_tree.specs.Touch.{touches_of, round_meets_at}
 use Rattle.tms_tree.proofs.Touching.{meets_from, true_and}
 use Rattle.cell_mosaic.specs.Cells.{Cells}
-use Rattle.post_bound.specs.Posts.{IsPostOf, across, along}
+use Rattle.post_bound.specs.Posts.{IsPostOf}
 use Rattle.post_bound.proofs.Turns.{degree_near}
-
-either_left : (a b : Bool) → a ≡ true → (a || b) ≡ true
-either_left true b e = refl
-either_left false b e = absurd (cc)
-
-either_right : (a b : Bool) → b ≡ true → (a || b) ≡ true
-either_right true b e = refl
-either_right false b e = e
-
-both_true : (a b : Bool) → a ≡ true → b ≡ true → (a && b) ≡ true
-both_true true b p q = q
-both_true false b p q = p
-
-eqb_yes : (a b : ℕ) → a ≡ b → nat_eq a b ≡ true
-eqb_yes a b e = eq-eqb a b e
 
 -- no post lies further than a degree from the first
 rest_small : (i step : ℕ) → i < 3600 / step + 1 → i * step ≤ 3600
@@ -96,7 +81,7 @@ module _ (cells : Cells) (tile : TileId) (key : CellKey) (turns u v metres : ℤ
           let same : pos key.square.lon +ℤ pos 360 *ℤ turns ≡ pos key.square.lon = omega (arith, ints, t) in
           let low = subst (λ (z : ℤ). (pos 180 *ℤ pos tile.x) ≤ℤ ((z +ℤ pos 1) *ℤ pos (2 ^ tile.z))) same column.0 in
           let high = subst (λ (z : ℤ). (z *ℤ pos (2 ^ tile.z)) ≤ℤ (pos 180 *ℤ pos tile.x +ℤ pos 180)) same column.1 in
-          either_left _ _ (meets_from tile.z tile.x key.square.lon (record { below = omega (arith, ints, low); above = omega (arith, ints, high) }))
+          or_left _ _ (meets_from tile.z tile.x key.square.lon (record { below = omega (arith, ints, low); above = omega (arith, ints, high) }))
 
       wraps_west : turns ≡ negsuc 0 → round_meets_at tile.z tile.x key.square.lon ≡ true
       wraps_west t =
@@ -106,7 +91,7 @@ module _ (cells : Cells) (tile : TileId) (key : CellKey) (turns u v metres : ℤ
           let last : key.square.lon ≡ 359 = omega (arith, ints, t, least, lon) in
           let none : next ≡ pos 0 = omega (arith, ints, t, last) in
           let first : tile.x ≡ 0 = omega (arith, ints, subst (λ (z : ℤ). (pos 180 *ℤ pos tile.x) ≤ℤ (z *ℤ n)) none column.0) in
-          either_right _ _ (either_left _ _ (both_true _ _ (eqb_yes tile.x 0 first) (eqb_yes key.square.lon 359 last)))
+          or_right _ _ (or_left _ _ (and_from _ _ (eq-eqb tile.x 0 first) (eq-eqb key.square.lon 359 last)))
 
       wraps_east : turns ≡ pos 1 → round_meets_at tile.z tile.x key.square.lon ≡ true
       wraps_east t =
@@ -118,4 +103,4 @@ module _ (cells : Cells) (tile : TileId) (key : CellKey) (turns u v metres : ℤ
           let first : key.square.lon ≡ 0 = omega (arith, ints, t, most) in
           let whole : degree ≡ pos 360 = omega (arith, ints, t, first) in
           let last : tile.x + 1 ≡ 2 ^ (tile.z + 1) = omega (arith, ints, x, two, subst (λ (z : ℤ). (z *ℤ n) ≤ℤ (pos 180 *ℤ pos tile.x +ℤ pos 180)) whole column.1) in
-          either_right _ _ (either_right _ _ (both_true _ _ (eqb_yes (tile.x + 1) (2 ^ (tile.z + 1)) last) (eqb_yes key.square.lon 0 first)))
+          or_right _ _ (or_right _ _ (and_from _ _ (eq-eqb (tile.x + 1) (2 ^ (tile.z + 1)) last) (eq-eqb key.square.lon 0 first)))

@@ -1,9 +1,10 @@
 -- The greatest of numbers is at least each of them, and at most what all of them are at most.
-use Rattle.std.proofs.Common.{◌≡◌, ◌⊎◌, ℕ, zero, suc, ◌+◌, ◌≤◌, ◌<◌, max, Bool, true, false, cond, arith, refl, sym, subst, ap, ◌∙◌, inl, inr, ⊎_elim, List, [], ◌∷◌, map, length, get_or}
+use Rattle.std.proofs.Common.{◌≡◌, ◌⊎◌, ℕ, zero, suc, ◌≤◌, ◌<◌, max, Bool, true, false, cond, arith, refl, sym, subst, ap, ◌∙◌, inl, inr, ⊎_elim, List, [], ◌∷◌, map, length, get_or}
 use Rattle.std.specs.Prelude.{fold, Contains}
 use Rattle.std.specs.List.{filter, range_with_len}
 use Rattle.std.proofs.lemmas.List.Elements.{Contains-get_or}
 use Rattle.std.proofs.lemmas.List.FromFn.{length-range_with_len, get_or-range_with_len}
+use Rattle.common_laws.proofs.Extremes.{max_is_one}
 use Rattle.post_bound.specs.Greatest.{greatest_of, greatest_below}
 
 module _ {A : Type 0} (f : A → ℕ) where
@@ -42,10 +43,6 @@ below_most n f m all =
     let is : x ≡ i.0 = let there = get_or-range_with_len 0 n i.0 x short in let here = i.2 in omega (arith, there, here) in
     all x (subst (λ (k : ℕ). k < n) (sym is) short))
 
--- the greatest is 0, or one of them
-one_of : (a b : ℕ) → (max a b ≡ a) ⊎ (max a b ≡ b)
-one_of a b = grind arith
-
 module _ {A : Type 0} (f : A → ℕ) where
   one_reached : (start : ℕ) (xs : List A) → (over f start xs ≡ start) ⊎ ((x : A) × Contains xs x × (over f start xs ≡ f x))
   one_reached start [] = inl refl
@@ -53,10 +50,11 @@ module _ {A : Type 0} (f : A → ℕ) where
       ⊎_elim
       (λ (e : over f (max start (f x)) xs ≡ max start (f x)). ⊎_elim
       (λ (s : max start (f x) ≡ start). inl (e ∙ s))
-      (λ (s : max start (f x) ≡ f x). inr (x, (0, omega arith, refl), e ∙ s)) (one_of start (f x)))
+      (λ (s : max start (f x) ≡ f x). inr (x, (0, omega arith, refl), e ∙ s)) (max_is_one start (f x)))
       (λ (w : (y : A) × Contains xs y × (over f (max start (f x)) xs ≡ f y)). inr (w.0, (suc w.1.0, (let lt = w.1.1 in omega (arith, lt)), w.1.2), w.2))
       (one_reached (max start (f x)) xs)
 
+  -- the greatest is 0, or one of them
   pub attained : (xs : List A) → (greatest_of f xs ≡ 0) ⊎ ((x : A) × Contains xs x × (greatest_of f xs ≡ f x))
   attained xs = one_reached 0 xs
 

@@ -1,5 +1,5 @@
 -- Spacings are small, and a cell's axes, cut to the tile, are a window of its posts.
-use Rattle.std.proofs.Common.{◌≡◌, ℕ, ◌≤◌, ◌<◌, ◌*◌, ◌-◌, ◌^◌, Bool, true, false, ◌&&◌, arith, sym, subst, List, Option, Some, None, is_some}
+use Rattle.std.proofs.Common.{◌≡◌, ℕ, ◌≤◌, ◌<◌, ◌*◌, Bool, true, false, ◌&&◌, arith, sym, subst, List, Option, Some, None, is_some}
 use Rattle.std.specs.Prelude.{nat_lt, if◌then◌else◌, ℤ, pos, ◌≤ℤ◌}
 use Rattle.std.specs.FinMap.{get}
 use Rattle.std.specs.FinSet.{contains}
@@ -9,12 +9,12 @@ use Rattle.terrain_base.specs.declared.tile.TileId.{TileId}
 use Rattle.terrain_base.specs.declared.level.CellLevel.{CellLevel}
 use Rattle.terrain_base.specs.declared.level.CellLevel.TheVariants.{Zero, One, Two}
 use Rattle.terrain_base.specs.declared.post.Post.TheVariants.{Void, Metres}
-use Rattle.terrain_base.specs.Level.{lat_step_of, lon_step_of, rows_of, columns_of, factor_at, zone_factor_of, degrees_from_equator}
-use Rattle.cell_mosaic.specs.Cells.{Cells, Shapes, HasPost, post_or_void}
+use Rattle.terrain_base.specs.Level.{lat_step_of, lon_step_of, factor_at, zone_factor_of, degrees_from_equator}
+use Rattle.cell_mosaic.specs.Cells.{Cells, Shapes, post_or_void}
 use Rattle.mesh_plane.specs.declared.corner.Tri.{Tri}
 use Rattle.lattice_sweep.specs.declared.axis.Axis.{Axis}
-use Rattle.lattice_sweep.specs.Axis.{point_of, Has, IsAxis, IsOnSide, IsCut}
-use Rattle.lattice_sweep.specs.Sweep.{HasPosts, IsWindow}
+use Rattle.lattice_sweep.specs.Axis.{IsAxis, IsOnSide, IsCut}
+use Rattle.lattice_sweep.specs.Sweep.{IsWindow}
 use Rattle.lattice_sweep.proofs.Boxes.{posts_cut}
 use Rattle.post_bound.specs.Window.{WindowGap, OfTriangles, AreColumns, AreRows}
 

@@ -1,13 +1,12 @@
 -- The bound depends on the cells alone that touch the tile.
 use Rattle.std.proofs.Common.{◌≡◌, ℕ, Bool, true, false, cond, refl, sym, ap, ◌∙◌, List, Option, None}
-use Rattle.std.specs.Prelude.{ℤ, nat_lt, map, if◌then◌else◌}
+use Rattle.std.specs.Prelude.{nat_lt, if◌then◌else◌}
 use Rattle.std.specs.List.{filter}
 use Rattle.std.specs.FinMap.{get, entries, entries_sorted, keys, get-entries, get-retain_keys, same_map}
 use Rattle.std.specs.FinMap.Entries.{is_sorted-where_key, find-where_key, same_entries}
 use Rattle.std.specs.declared.cmp.Ordering.TheVariants.{Equal}
 use Rattle.terrain_base.specs.declared.cell_key.CellKey.{CellKey}
 use Rattle.terrain_base.specs.declared.tile.TileId.{TileId}
-use Rattle.terrain_base.specs.declared.summary.Summary.{Summary}
 use Rattle.terrain_base.specs.CellKey.{key_cmp, keys_total}
 use Rattle.terrain_base.proofs.KeyOrder.{keys_exact}
 use Rattle.tms_tree.specs.Touch.{touches_of}

@@ -1,7 +1,6 @@
 -- The mesh of a grid can be swept.
-use Rattle.std.proofs.Common.{◌≡◌, ℕ, ◌+◌, ◌*◌, ◌/◌, ◌%◌, ◌≤◌, ◌<◌, arith, refl, sym, subst, ap, ◌∙◌, List, length, map, get_or}
-use Rattle.std.specs.Prelude.{ℤ, pos, ◌-ℤ◌, ◌≤ℤ◌, All}
-use Rattle.std.proofs.lemmas.Int.{ints}
+use Rattle.std.proofs.Common.{◌≡◌, ℕ, ◌≤◌, ◌<◌, refl, sym, subst, ap, ◌∙◌, List, length, map, get_or}
+use Rattle.std.specs.Prelude.{pos, All}
 use Rattle.std.proofs.lemmas.List.{length-map, get_or-map}
 use Rattle.terrain_base.specs.declared.indexes.Indexes.{Indexes}
 use Rattle.terrain_base.specs.Height.{IsHeight}
@@ -11,7 +10,7 @@ use Rattle.mesh_plane.specs.Cover.{Covers}
 use Rattle.tile_mesh.specs.declared.point.MeshPoint.{MeshPoint}
 use Rattle.tile_mesh.specs.Mesh.{Mesh, IsMeshAt, mesh_of_grid}
 use Rattle.tile_mesh.specs.Numbering.{ArePoints}
-use Rattle.tile_mesh.specs.Plane.{vertex, point_corner, triangle_of, triangles_in}
+use Rattle.tile_mesh.specs.Plane.{vertex, triangle_of, triangles_in}
 use Rattle.tile_mesh.proofs.Made.{mesh_covers}
 use Rattle.tile_mesh.proofs.MeshNumbers.{numbered_law}
 use Rattle.tile_mesh.proofs.VertexHeights.{heights_in_range}

@@ -1,32 +1,30 @@
 -- The greatest gap at all posts of the cells that touch a tile is the bound.
-use Rattle.std.proofs.Common.{◌≡◌, ℕ, ◌+◌, ◌*◌, ◌^◌, ◌≤◌, ◌<◌, Bool, true, false, ◌&&◌, cond, arith, refl, sym, subst, ap, ◌∙◌, List, [], ◌∷◌, Option, Some, None, is_some, inl, inr, ⊎_elim}
-use Rattle.std.specs.Prelude.{◌⊎◌, ℤ, pos, negsuc, ◌+ℤ◌, ◌-ℤ◌, ◌*ℤ◌, ◌≤ℤ◌, ◌<ℤ◌, int_le, unsigned_abs, All, Contains, if◌then◌else◌}
+use Rattle.std.proofs.Common.{◌≡◌, ℕ, ◌≤◌, ◌<◌, Bool, true, false, ◌&&◌, cond, arith, refl, sym, subst, ap, ◌∙◌, List, [], ◌∷◌, Option, Some, None, is_some}
+use Rattle.std.specs.Prelude.{ℤ, pos, negsuc, ◌+ℤ◌, ◌-ℤ◌, ◌*ℤ◌, ◌≤ℤ◌, ◌<ℤ◌, unsigned_abs, All, Contains, if◌then◌else◌}
 use Rattle.std.specs.FinMap.{get, keys, get-retain_keys, contains_key-keys}
-use Rattle.std.specs.Ordering.{eq_by_cmp}
-use Rattle.std.specs.declared.cmp.Ordering.TheVariants.{Equal}
 use Rattle.std.proofs.lemmas.Int.{ints, by_lt_z}
 use Rattle.std.proofs.lemmas.Nat.{pow_pos}
 use Rattle.std.proofs.lemmas.List.Elements.{All-contains}
 use Rattle.std.proofs.lemmas.Map.Views.{tells_apart, Contains-from_any}
+use Rattle.common_laws.proofs.Orders.{test_from_at_most, at_most_from_test}
 use Rattle.polynomial.proofs.Expressions.{var, num, sub, add, mul}
 use Rattle.polynomial.proofs.NormalForm.{by_ring}
-use Rattle.polynomial.proofs.Signs.{times_nonneg, times_pos, factor_nonneg, weaken}
+use Rattle.polynomial.proofs.Signs.{times_nonneg, factor_nonneg, weaken}
 use Rattle.terrain_base.specs.declared.cell_key.CellKey.{CellKey}
 use Rattle.terrain_base.specs.declared.tile.TileId.{TileId}
 use Rattle.terrain_base.specs.declared.post.Post.{Post}
 use Rattle.terrain_base.specs.declared.post.Post.TheVariants.{Void, Metres}
-use Rattle.terrain_base.specs.CellKey.{key_cmp}
-use Rattle.terrain_base.specs.Division.{IsCeil, ceil_of}
+use Rattle.terrain_base.specs.Division.{ceil_of}
 use Rattle.terrain_base.specs.Level.{rows_of, columns_of}
 use Rattle.terrain_base.proofs.KeyOrder.{keys_exact}
 use Rattle.terrain_base.proofs.Quotients.{ceil_is}
 use Rattle.tms_tree.specs.Touch.{touches_of}
 use Rattle.cell_mosaic.specs.Cells.{Cells, post_at, post_or_void}
 use Rattle.mesh_plane.specs.declared.corner.Tri.{Tri}
-use Rattle.mesh_plane.specs.Plane.{side_of, TriangleHolds, IsTilePoint, doubled_area, point}
-use Rattle.mesh_plane.specs.Surface.{Surface, lift_of, gap_over, gap_under, size_of}
+use Rattle.mesh_plane.specs.Plane.{TriangleHolds, IsTilePoint}
+use Rattle.mesh_plane.specs.Surface.{Surface, lift_of, gap_over, gap_under}
 use Rattle.mesh_plane.specs.SurfaceLaw.{IsTriIn}
-use Rattle.mesh_plane.specs.Fan.{Rect, InRect, grown}
+use Rattle.mesh_plane.specs.Fan.{Rect}
 use Rattle.mesh_plane.proofs.SurfaceLaws.{surface_law}
 use Rattle.tile_mesh.specs.Mesh.{Mesh}
 use Rattle.tile_mesh.specs.Plane.{triangles_in}
@@ -34,7 +32,7 @@ use Rattle.lattice_sweep.specs.Plane.{IsTerrainTri}
 use Rattle.lattice_sweep.proofs.Bounds.{grown as more}
 use Rattle.post_bound.specs.Posts.{seconds_east, seconds_north, across, along, IsPostOf, HasPostAt}
 use Rattle.post_bound.specs.Greatest.{greatest_of, greatest_below}
-use Rattle.post_bound.specs.Bound.{KeepsBound, IsPostBound, near, is_held, gap_at, gap_of_post, gap_of_cell, post_bound_of}
+use Rattle.post_bound.specs.Bound.{KeepsBound, near, is_held, gap_at, gap_of_post, gap_of_cell, post_bound_of}
 use Rattle.post_bound.specs.Laws.{PostBoundLaw}
 use Rattle.post_bound.proofs.Among.{all_turning, natural}
 use Rattle.post_bound.proofs.Far.{one_turn, post_touches}
@@ -66,12 +64,6 @@ ceil_within over under n h p l =
     (λ most. omega (arith, ints, most, natural q least))
 
 -- ---- whether a triangle holds a point
-le_yes : (m n : ℤ) → m ≤ℤ n → int_le m n ≡ true
-le_yes m n h = grind (arith, ints, h)
-
-le_holds : (m n : ℤ) → int_le m n ≡ true → m ≤ℤ n
-le_holds m n h = grind (arith, ints, h)
-
 both : (a b c : Bool) → a ≡ true → b ≡ true → c ≡ true → (a && (b && c)) ≡ true
 both true true c p q r = r
 both true false c p q r = q
@@ -83,14 +75,14 @@ parts true false c e = absurd (cc)
 parts false b c e = absurd (cc)
 
 pub held_yes : (u v : ℤ) (t : Tri) → TriangleHolds (pos 648000) u v t → is_held u v t ≡ true
-held_yes u v t h = both _ _ _ (le_yes _ _ h.ab) (le_yes _ _ h.bc) (le_yes _ _ h.ca)
+held_yes u v t h = both _ _ _ (test_from_at_most _ _ h.ab) (test_from_at_most _ _ h.bc) (test_from_at_most _ _ h.ca)
 
 pub held_holds : (u v : ℤ) (t : Tri) → is_held u v t ≡ true → TriangleHolds (pos 648000) u v t
 held_holds u v t e =
     let p = parts _ _ _ e in
-    record { ab = le_holds _ _ p.0; bc = le_holds _ _ p.1; ca = le_holds _ _ p.2 }
+    record { ab = at_most_from_test _ _ p.0; bc = at_most_from_test _ _ p.1; ca = at_most_from_test _ _ p.2 }
 
-at_one : (b : Bool) (n : ℕ) → b ≡ true → (if b then n else 0) ≡ n
+pub at_one : (b : Bool) (n : ℕ) → b ≡ true → (if b then n else 0) ≡ n
 at_one true n e = refl
 at_one false n e = absurd (cc)
 

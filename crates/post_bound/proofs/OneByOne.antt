@@ -1,8 +1,9 @@
 -- One triangle after another.
 use Rattle.std.proofs.Common.{◌≡◌, ℕ, ◌+◌, ◌≤◌, ◌<◌, arith, sym, subst, ap, ◌∙◌, List, length, get_or, inl, inr}
 use Rattle.std.specs.Prelude.{ℤ, pos, ◌≤ℤ◌, All}
-use Rattle.std.proofs.lemmas.Int.{ints, by_lt_z}
+use Rattle.std.proofs.lemmas.Int.{ints}
 use Rattle.std.proofs.lemmas.List.{get_or_default}
+use Rattle.common_laws.proofs.Orders.{by_last}
 use Rattle.polynomial.proofs.Signs.{times_pos, weaken}
 use Rattle.terrain_base.specs.declared.cell_key.CellKey.{CellKey}
 use Rattle.cell_mosaic.specs.Cells.{Cells}
@@ -14,9 +15,6 @@ use Rattle.lattice_sweep.specs.Plane.{IsTerrainTri}
 use Rattle.lattice_sweep.specs.Bound.{GapIn, IsRaisedBound}
 use Rattle.lattice_sweep.proofs.Bounds.{bounds_both, bounds_same}
 use Rattle.post_bound.specs.Window.{OfTriangles}
-
-by_last : {X : Type 0} (i n : ℕ) → i < n + 1 → (i < n → X) → (i ≡ n → X) → X
-by_last i n h f g = by_lt_z (pos i) (pos n) (λ l. f (omega (arith, ints, l))) (λ l. g (omega (arith, ints, l)))
 
 module _ (cells : Cells) (key : CellKey) (ts : List Tri) (east north : Axis) where
   pub one_triangle : (n : ℕ) (d : Tri) {a b c : ℕ} → n < length ts → All IsTerrainTri ts

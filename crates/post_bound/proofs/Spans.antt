@@ -1,13 +1,15 @@
 -- Below level 8 the greatest difference of a vertex and an extreme keeps every post.
-use Rattle.std.proofs.Common.{◌≡◌, ◌⊎◌, ℕ, suc, ◌+◌, ◌≤◌, ◌<◌, max, Bool, true, false, cond, arith, refl, sym, subst, ap, ◌∙◌, inl, inr, ⊎_elim, List, [], ◌∷◌, map, length, get_or, Option, Some, None}
-use Rattle.std.specs.Prelude.{ℤ, pos, ◌-ℤ◌, ◌+ℤ◌, ◌*ℤ◌, ◌≤ℤ◌, ◌<ℤ◌, int_le, unsigned_abs, All, Contains, IfSome, nat_lt, if◌then◌else◌}
+use Rattle.std.proofs.Common.{◌≡◌, ◌⊎◌, ℕ, suc, ◌<◌, max, Bool, true, false, cond, arith, refl, sym, subst, ap, ◌∙◌, inl, inr, ⊎_elim, List, [], ◌∷◌, map, length, get_or, Option, Some, None}
+use Rattle.std.specs.Prelude.{ℤ, pos, ◌-ℤ◌, ◌*ℤ◌, ◌≤ℤ◌, ◌<ℤ◌, int_le, unsigned_abs, All, Contains, nat_lt, if◌then◌else◌}
 use Rattle.std.specs.FinMap.{get, entries, get-entries, find}
 use Rattle.std.specs.Ordering.{eq_by_cmp}
-use Rattle.std.proofs.lemmas.Int.{ints, by_lt_z, fold-int_min_bounds, fold-int_max_bounds, fold-int_min_reached, fold-int_max_reached}
+use Rattle.std.proofs.lemmas.Int.{ints, fold-int_min_bounds, fold-int_max_bounds, fold-int_min_reached, fold-int_max_reached}
 use Rattle.std.proofs.lemmas.Nat.{pow_pos}
 use Rattle.std.proofs.lemmas.List.{length-map, get_or-map}
 use Rattle.std.proofs.lemmas.List.Elements.{All-contains, Contains-get_or}
 use Rattle.std.proofs.lemmas.Map.Views.{tells_apart}
+use Rattle.common_laws.proofs.Extremes.{max_is_one}
+use Rattle.common_laws.proofs.Sizes.{size_of_near}
 use Rattle.polynomial.proofs.Expressions.{var, sub, mul}
 use Rattle.polynomial.proofs.NormalForm.{by_ring}
 use Rattle.polynomial.proofs.Signs.{times_nonneg, weaken}
@@ -18,31 +20,28 @@ use Rattle.terrain_base.specs.declared.post.Extremes.{Extremes}
 use Rattle.terrain_base.specs.declared.post.Post.TheVariants.{Void, Metres}
 use Rattle.terrain_base.specs.declared.summary.Summary.{Summary}
 use Rattle.terrain_base.specs.CellKey.{key_cmp}
-use Rattle.terrain_base.specs.Grid.{IsGrid}
 use Rattle.terrain_base.specs.Height.{IsHeight}
 use Rattle.terrain_base.specs.Level.{rows_of, columns_of}
 use Rattle.terrain_base.proofs.KeyOrder.{keys_exact}
-use Rattle.dted_cell.specs.Cell.{extremes_in, post_in, columns_in, rows_in, square_in, level_in, HasHeight, BoundsPosts}
+use Rattle.dted_cell.specs.Cell.{extremes_in, post_in, columns_in, rows_in, level_in, HasHeight}
 use Rattle.dted_cell.specs.Trouble.{IsCellAt}
 use Rattle.dted_cell.proofs.Extremes.{bounding, no_extremes}
 use Rattle.tms_tree.specs.Touch.{touches_of}
-use Rattle.cell_mosaic.specs.Cells.{Cells, AreSound, post_at, post_or_void}
+use Rattle.cell_mosaic.specs.Cells.{Cells, post_or_void}
 use Rattle.mesh_plane.specs.declared.corner.Tri.{Tri}
 use Rattle.mesh_plane.specs.Plane.{IsCounterClockwise}
 use Rattle.mesh_plane.specs.Surface.{lift_of, gap_under}
 use Rattle.mesh_plane.specs.SurfaceLaw.{AreHeightsWithin, IsSurfaceNear}
-use Rattle.mesh_plane.proofs.SurfaceLaws.{surface_law, size_of_near}
+use Rattle.mesh_plane.proofs.SurfaceLaws.{surface_law}
 use Rattle.tile_mesh.specs.declared.point.MeshPoint.{MeshPoint}
-use Rattle.tile_mesh.specs.Mesh.{Mesh, mesh_of_grid, IsMeshAt}
-use Rattle.tile_mesh.specs.MeshNumbers.{IsNumbered}
+use Rattle.tile_mesh.specs.Mesh.{Mesh, mesh_of_grid}
 use Rattle.tile_mesh.specs.Numbering.{ArePoints}
 use Rattle.tile_mesh.specs.Plane.{triangle_of, triangles_in}
 use Rattle.tile_mesh.proofs.MeshNumbers.{numbered_law}
 use Rattle.tile_mesh.proofs.VertexHeights.{heights_in_range}
-use Rattle.post_bound.specs.Posts.{HasPostAt}
 use Rattle.post_bound.specs.Greatest.{greatest_of}
 use Rattle.post_bound.specs.Bound.{KeepsBound, post_bound_of}
-use Rattle.post_bound.specs.Span.{least_metres, most_metres, or_zero, span_of_extremes, span_of_cell, span_bound_of, IsSpan, IsSpanBound}
+use Rattle.post_bound.specs.Span.{least_metres, most_metres, or_zero, span_of_extremes, span_of_cell, span_bound_of, IsSpan}
 use Rattle.cell_mosaic.specs.Summaries.{summary_of, summaries_of}
 use Rattle.post_bound.specs.Rule.{bound_of}
 use Rattle.post_bound.specs.Laws.{SpanBoundLaw, SpanKeepsLaw, BoundKeepsLaw}
@@ -50,7 +49,7 @@ use Rattle.post_bound.proofs.Among.{all_turning}
 use Rattle.post_bound.proofs.Far.{post_touches}
 use Rattle.post_bound.proofs.Greatest.{at_least, attained}
 use Rattle.post_bound.proofs.Meshes.{of_vertex, nth_triangle, swept_mesh}
-use Rattle.post_bound.proofs.Numbers.{post_bound_law}
+use Rattle.post_bound.proofs.Numbers.{post_bound_law, at_one}
 use Rattle.post_bound.proofs.Swept.{area_above, surface_near}
 
 -- ---- the least and the greatest vertex
@@ -121,16 +120,9 @@ or_itself n false e = inr (grind (arith, ints, e))
 pub or_zero_is : (n : ℤ) → (or_zero n ≡ 0) ⊎ (pos (or_zero n) ≡ n)
 or_zero_is n = or_itself n (int_le n (pos 0)) refl
 
-one_of : (a b : ℕ) → (max a b ≡ a) ⊎ (max a b ≡ b)
-one_of a b = grind arith
-
 -- ---- one cell
-if_yes : (b : Bool) (n : ℕ) → b ≡ true → (if b then n else 0) ≡ n
-if_yes true n e = refl
-if_yes false n e = absurd (cc)
-
 span_yes : (tile : TileId) (least most : ℤ) (cell : Summary) → touches_of tile cell.square ≡ true → span_of_cell tile least most cell ≡ span_of_extremes least most cell.extremes
-span_yes tile least most cell e = if_yes (touches_of tile cell.square) (span_of_extremes least most cell.extremes) e
+span_yes tile least most cell e = at_one (touches_of tile cell.square) (span_of_extremes least most cell.extremes) e
 
 span_some : (least most : ℤ) (o : Option Extremes) (e : Extremes) → o ≡ Some e → span_of_extremes least most o ≡ span_of_extremes least most (Some e)
 span_some least most o e is = ap (span_of_extremes least most) is
@@ -189,7 +181,7 @@ module _ (summaries : List Summary) (tile : TileId) (mesh : Mesh) (some : 0 < le
         has = is;
         is = inr (ap pos (e ∙ is_under) ∙ whole ∙ ap (λ z. z -ℤ extremes.least) (sym high.2));
       })) (or_zero_is (most -ℤ extremes.least)))
-      (one_of over under)
+      (max_is_one over under)
 
   attained_span : (span_bound_of summaries tile mesh ≡ 0) ⊎ IsSpan summaries tile mesh (pos (span_bound_of summaries tile mesh))
   unfolding span_bound_of

@@ -1,22 +1,23 @@
 -- What was swept is the bound.
-use Rattle.std.proofs.Common.{◌≡◌, ℕ, ◌+◌, ◌-◌, ◌*◌, ◌^◌, ◌≤◌, ◌<◌, arith, refl, sym, ap, ◌∙◌, subst, List, [], ◌∷◌}
+use Rattle.std.proofs.Common.{◌≡◌, ℕ, ◌+◌, ◌-◌, ◌*◌, ◌^◌, ◌≤◌, arith, refl, sym, ap, ◌∙◌, subst, List, [], ◌∷◌}
 use Rattle.std.specs.Prelude.{ℤ, pos, ◌+ℤ◌, ◌-ℤ◌, ◌*ℤ◌, ◌≤ℤ◌, ◌<ℤ◌, All, Contains, unsigned_abs}
 use Rattle.std.proofs.lemmas.Int.{ints}
 use Rattle.std.proofs.lemmas.Nat.{pow-add}
+use Rattle.common_laws.proofs.Sizes.{size_of_near, near_of_size}
 use Rattle.polynomial.proofs.Expressions.{var, num, sub, mul}
 use Rattle.polynomial.proofs.NormalForm.{by_ring}
-use Rattle.polynomial.proofs.Signs.{times_pos, times_nonneg, weaken}
+use Rattle.polynomial.proofs.Signs.{times_pos}
 use Rattle.terrain_base.specs.declared.tile.TileId.{TileId}
 use Rattle.terrain_base.specs.declared.cell_key.CellKey.{CellKey}
 use Rattle.cell_mosaic.specs.Cells.{Cells}
 use Rattle.mesh_plane.specs.declared.corner.Tri.{Tri}
-use Rattle.mesh_plane.specs.Plane.{TriangleHolds, IsCounterClockwise, doubled_area}
+use Rattle.mesh_plane.specs.Plane.{IsCounterClockwise, doubled_area}
 use Rattle.mesh_plane.specs.Surface.{Surface, HasHeight, lift_of, gap_over, gap_under}
-use Rattle.mesh_plane.specs.SurfaceLaw.{AreHeightsWithin, IsSurfaceNear}
-use Rattle.mesh_plane.proofs.SurfaceLaws.{surface_law, IsNear, near_moved, near_of_size, size_of_near}
+use Rattle.mesh_plane.specs.SurfaceLaw.{IsSurfaceNear}
+use Rattle.mesh_plane.proofs.SurfaceLaws.{surface_law, near_moved}
 use Rattle.lattice_sweep.specs.Bound.{IsRaisedBound}
 use Rattle.post_bound.specs.Posts.{seconds_east, seconds_north, IsPostOf, HasPostAt}
-use Rattle.post_bound.specs.Bound.{KeepsBound, IsPostBound}
+use Rattle.post_bound.specs.Bound.{KeepsBound}
 use Rattle.post_bound.specs.Window.{WindowGap}
 use Rattle.post_bound.specs.Squares.{GapAmong, Everywhere}
 use Rattle.post_bound.specs.Laws.{SweptLaw, OneBoundLaw}

@@ -1,19 +1,16 @@
 -- What a window sweeps is what the definition says of its posts.
-use Rattle.std.proofs.Common.{◌≡◌, ℕ, ◌+◌, ◌-◌, ◌*◌, ◌^◌, ◌≤◌, ◌<◌, arith, refl, sym, ap, ◌∙◌, subst, List, length, Some}
+use Rattle.std.proofs.Common.{◌≡◌, ℕ, ◌+◌, ◌*◌, ◌^◌, ◌≤◌, ◌<◌, arith, sym, ap, ◌∙◌, subst, List, length}
 use Rattle.std.specs.Prelude.{ℤ, pos, ◌+ℤ◌, ◌-ℤ◌, ◌*ℤ◌, ◌≤ℤ◌}
 use Rattle.std.proofs.lemmas.Int.{ints}
 use Rattle.terrain_base.specs.declared.cell_key.CellKey.{CellKey}
 use Rattle.terrain_base.specs.declared.tile.TileId.{TileId}
-use Rattle.terrain_base.specs.declared.post.Post.TheVariants.{Metres}
-use Rattle.terrain_base.specs.Level.{lat_step_of, lon_step_of, rows_of, columns_of}
-use Rattle.cell_mosaic.specs.Cells.{Cells, post_at}
+use Rattle.terrain_base.specs.Level.{lat_step_of, lon_step_of}
+use Rattle.cell_mosaic.specs.Cells.{Cells}
 use Rattle.mesh_plane.specs.declared.corner.Tri.{Tri}
-use Rattle.mesh_plane.specs.Plane.{TriangleHolds, IsTilePoint}
-use Rattle.mesh_plane.specs.Surface.{gap_over}
 use Rattle.lattice_sweep.specs.declared.axis.Axis.{Axis}
 use Rattle.lattice_sweep.specs.Axis.{point_of, Has, IsCut}
 use Rattle.lattice_sweep.specs.Sweep.{HeldGap}
-use Rattle.post_bound.specs.Posts.{seconds_east, seconds_north, across, along, IsPostOf}
+use Rattle.post_bound.specs.Posts.{seconds_east, seconds_north, across, along}
 use Rattle.post_bound.specs.Window.{WindowGap, OfTriangles, AreColumns, AreRows, WindowLaw}
 use Rattle.post_bound.proofs.Swept.{coarse}
 

@@ -1,5 +1,5 @@
 -- The error bound at posts, from level 8 on.
-use Rattle.std.specs.Prelude.{◌≡◌, ℕ, ℤ, pos, negsuc, ◌≤◌, List, [], ◌∷◌, int_le, Bool, ◌&&◌, unsigned_abs, if◌then◌else◌}
+use Rattle.std.specs.Prelude.{ℕ, ℤ, pos, negsuc, ◌≤◌, List, [], ◌∷◌, int_le, Bool, ◌&&◌, unsigned_abs, if◌then◌else◌}
 use Rattle.std.specs.FinMap.{keys, retain_keys}
 use Rattle.terrain_base.specs.declared.cell_key.CellKey.{CellKey}
 use Rattle.terrain_base.specs.declared.tile.TileId.{TileId}

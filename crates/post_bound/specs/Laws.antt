@@ -1,5 +1,5 @@
 -- What holds of the bounds.
-use Rattle.std.specs.Prelude.{◌≡◌, ℕ, ℤ, pos, ◌-ℤ◌, ◌≤ℤ◌, ◌≤◌, ◌<◌, true, List, All}
+use Rattle.std.specs.Prelude.{◌≡◌, ℕ, ℤ, ◌≤◌, true, List, All}
 use Rattle.std.specs.FinMap.{get}
 use Rattle.terrain_base.specs.declared.cell_key.CellKey.{CellKey}
 use Rattle.terrain_base.specs.declared.tile.TileId.{TileId}

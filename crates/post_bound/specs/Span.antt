@@ -1,5 +1,5 @@
 -- The error bound below level 8, by the extremes of cells and of the mesh.
-use Rattle.std.specs.Prelude.{◌≡◌, ◌⊎◌, ℕ, ℤ, pos, ◌-ℤ◌, ◌≤ℤ◌, ◌<◌, max, true, List, fold, map, Option, Some, None, int_le, unsigned_abs, All, Contains, if◌then◌else◌}
+use Rattle.std.specs.Prelude.{◌≡◌, ◌⊎◌, ℕ, ℤ, pos, ◌-ℤ◌, ◌≤ℤ◌, max, true, List, fold, map, Option, Some, None, int_le, unsigned_abs, Contains, if◌then◌else◌}
 use Rattle.std.specs.Int.{int_min, int_max}
 use Rattle.terrain_base.specs.declared.tile.TileId.{TileId}
 use Rattle.terrain_base.specs.declared.post.Extremes.{Extremes}

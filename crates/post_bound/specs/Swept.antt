@@ -1,7 +1,6 @@
 -- Meshes that can be swept.
-use Rattle.std.specs.Prelude.{◌≡◌, ℕ, ℤ, List, length, All}
-use Rattle.terrain_base.specs.Grid.{IsGrid}
-use Rattle.tile_mesh.specs.Mesh.{Mesh, mesh_of_grid}
+use Rattle.std.specs.Prelude.{length, All}
+use Rattle.tile_mesh.specs.Mesh.{Mesh}
 use Rattle.tile_mesh.specs.MeshNumbers.{IsVertexOnGrid}
 use Rattle.tile_mesh.specs.Numbering.{ArePoints}
 use Rattle.tile_mesh.specs.Plane.{triangles_in}

@@ -1,5 +1,5 @@
 -- Its numbers, by what each function says.
-use Rattle.std.proofs.Common.{◌≡◌, ℕ, ◌*◌, arith, rules, FitsSigned, w64, ap, ◌∙◌}
+use Rattle.std.proofs.Common.{◌*◌, arith, rules, FitsSigned, w64, ap, ◌∙◌}
 use Rattle.std.specs.Prelude.{ℤ, pos, ◌+ℤ◌, ◌-ℤ◌, ◌*ℤ◌}
 use Rattle.std.proofs.lemmas.Int.{ints, to_z-of_z}
 use Rattle.post_bound.proofs.Turns.{place_is, step_size}

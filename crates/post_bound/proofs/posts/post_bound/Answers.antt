@@ -1,9 +1,8 @@
 -- Latitude by latitude.
-use Rattle.std.proofs.Common.{◌≡◌, subst, arith, rules}
+use Rattle.std.proofs.Common.{arith, rules}
 use Rattle.std.proofs.lemmas.Nat.{pow_pos}
 use Rattle.cell_mosaic.proofs.Keeping.{told_next, leaves_then, leaves_err}
 use Rattle.tile_mesh.specs.Plane.{triangles_in}
-use Rattle.post_bound.specs.Swept.{IsSwept}
 use Rattle.post_bound.proofs.Among.{next_latitude, no_latitude, all_latitudes, all_turning}
 use Rattle.post_bound.proofs.Meshes.{swept_mesh}
 use Rattle.post_bound.proofs.Numbers.{post_bound_law}

@@ -1,12 +1,12 @@
 -- Vertex by vertex.
-use Rattle.std.proofs.Common.{◌≡◌, ◌≤◌, pos, take, fold, map, length, get_or, sym, ap, ◌∙◌, arith, rules, FitsSigned, w16, to_z}
+use Rattle.std.proofs.Common.{pos, take, fold, map, get_or, sym, ap, ◌∙◌, arith, rules, FitsSigned, w16, to_z}
 use Rattle.std.specs.Prelude.{◌-ℤ◌}
 use Rattle.std.specs.Int.{int_max}
 use Rattle.std.proofs.lemmas.Int.{to_z-of_z}
 use Rattle.std.proofs.lemmas.List.{length-map, get_or-map, take_all}
 use Rattle.std.proofs.lemmas.List.Sums.{fold_more}
+use Rattle.common_laws.proofs.Extremes.{ord_max_is}
 use Rattle.tile_mesh.specs.declared.point.MeshPoint.{MeshPoint}
-use Rattle.post_bound.proofs.Extremes.{max_is}
 use Rattle.post_bound.proofs.span.highest.Goals as goal
 
 pub loop-point-preserved : goal.loop-point-preserved
@@ -17,7 +17,7 @@ loop-point-preserved c =
     let metres_fit : FitsSigned w16 (get_or points i point).metres = search rules in
     let result_fits : FitsSigned w16 c.max-most.result = search rules in
     simp to_z-of_z (simp to_z-of_z at c.max-most.ensures
-    ∙ max_is (to_z w16 c.loop-point.most-bits) (get_or points i point).metres
+    ∙ ord_max_is (to_z w16 c.loop-point.most-bits) (get_or points i point).metres
     ∙ ap (λ z. int_max z (get_or points i point).metres) c.loop-point.invariant
     ∙ ap (λ z. int_max (fold int_max (pos 0 -ℤ pos 16000) (take i metres)) z) (sym (get_or-map (λ (p : MeshPoint). p.metres) points i point (pos 0) c.loop-point-test.true))
     ∙ sym (fold_more int_max (pos 0 -ℤ pos 16000) metres i (pos 0) (omega (arith, length-map points (λ (p : MeshPoint). p.metres), c.loop-point-test.true))))

@@ -1,5 +1,5 @@
 -- All cells, over the least and the greatest vertex.
-use Rattle.std.proofs.Common.{◌≡◌, sym, ap, ◌∙◌, rules, FitsSigned, w16}
+use Rattle.std.proofs.Common.{ap, ◌∙◌, rules, FitsSigned, w16}
 use Rattle.std.specs.Prelude.{ℤ}
 use Rattle.std.proofs.lemmas.Int.{to_z-of_z}
 use Rattle.std.proofs.lemmas.List.{take_all}

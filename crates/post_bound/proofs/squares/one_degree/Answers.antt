@@ -1,6 +1,6 @@
 -- The square of the degrees.
-use Rattle.std.proofs.Common.{◌≡◌, ◌/◌, arith, rules, FitsSigned, w64}
-use Rattle.std.specs.Prelude.{ℤ, pos, ◌-ℤ◌, ◌+ℤ◌, ◌*ℤ◌}
+use Rattle.std.proofs.Common.{arith, FitsSigned, w64}
+use Rattle.std.specs.Prelude.{pos, ◌-ℤ◌}
 use Rattle.std.proofs.lemmas.Int.{ints, to_z-of_z}
 use Rattle.tile_mesh.specs.Plane.{triangles_in}
 use Rattle.post_bound.proofs.Among.{its_degree}

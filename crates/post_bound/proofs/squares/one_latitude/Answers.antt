@@ -1,5 +1,5 @@
 -- Degree by degree.
-use Rattle.std.proofs.Common.{◌≡◌, subst, arith, rules}
+use Rattle.std.proofs.Common.{arith, rules}
 use Rattle.std.proofs.lemmas.Nat.{pow_pos}
 use Rattle.cell_mosaic.proofs.Keeping.{told_next, leaves_then, leaves_err}
 use Rattle.tile_mesh.specs.Plane.{triangles_in}

@@ -1,7 +1,6 @@
 -- The three levels.
-use Rattle.std.proofs.Common.{rules, FitsSigned, w64}
 use Rattle.std.proofs.lemmas.Int.{to_z-of_z}
-use Rattle.cell_mosaic.proofs.Keeping.{told_next, leaves_then, leaves_err}
+use Rattle.cell_mosaic.proofs.Keeping.{told_next}
 use Rattle.tile_mesh.specs.Plane.{triangles_in}
 use Rattle.post_bound.proofs.Among.{three_levels}
 use Rattle.post_bound.proofs.squares.one_square.Goals as goal

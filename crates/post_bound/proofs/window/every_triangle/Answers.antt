@@ -1,10 +1,9 @@
 -- Triangle by triangle.
-use Rattle.std.proofs.Common.{◌≡◌, ℕ, ◌<◌, length, get_or, List, subst, sym, ap, ◌∙◌, arith, rules}
-use Rattle.std.proofs.lemmas.List.{length-map}
+use Rattle.std.proofs.Common.{subst, sym}
 use Rattle.cell_mosaic.specs.Cells.{Shapes}
 use Rattle.cell_mosaic.proofs.Keeping.{told_next, leaves_then, leaves_err}
 use Rattle.mesh_plane.specs.declared.corner.Tri.{Tri}
-use Rattle.tile_mesh.specs.Plane.{triangle_of, triangles_in}
+use Rattle.tile_mesh.specs.Plane.{triangles_in}
 use Rattle.lattice_sweep.specs.Plane.{IsTerrainTri}
 use Rattle.lattice_sweep.specs.Sweep.{IsWindow}
 use Rattle.lattice_sweep.specs.Bound.{GapIn, IsRaisedBound}

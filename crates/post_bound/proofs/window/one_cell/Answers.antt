@@ -1,7 +1,7 @@
 -- The window's axes are those of the definition.
-use Rattle.std.proofs.Common.{◌≡◌, ◌∙◌, sym, rules, arith, FitsSigned, w64, length, ℕ}
-use Rattle.std.specs.Prelude.{ℤ, IfOk}
-use Rattle.std.proofs.lemmas.Int.{ints, to_z-of_z}
+use Rattle.std.proofs.Common.{◌∙◌, sym, length, ℕ}
+use Rattle.std.specs.Prelude.{ℤ}
+use Rattle.std.proofs.lemmas.Int.{to_z-of_z}
 use Rattle.tile_mesh.specs.Plane.{triangles_in}
 use Rattle.lattice_sweep.proofs.Bounds.{bounds_none, bounds_same}
 use Rattle.post_bound.proofs.Levels.{window_of, no_posts, no_window}
