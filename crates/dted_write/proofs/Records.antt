@@ -1,15 +1,13 @@
 -- Loops over the rows of a record and over the records of a cell.
 use Rattle.std.proofs.Common.{◌≡◌, ℕ, zero, suc, ◌+◌, ◌-◌, ◌*◌, ◌<◌, ◌≤◌, ◌^◌, List, [], ◌∷◌, ◌++◌, map, length, refl, arith, append_assoc}
 use Rattle.std.specs.List.{flat_map, range_with_len}
+use Rattle.common_laws.proofs.Lists.{range_next}
 use Rattle.terrain_base.specs.declared.post.Post.{Post}
 use Rattle.terrain_base.specs.declared.level.CellLevel.{CellLevel}
 use Rattle.terrain_base.specs.declared.level.CellLevel.TheVariants.{Zero, One, Two}
 use Rattle.terrain_base.specs.Level.{rows_of}
 use Rattle.dted_write.specs.Record.{word_of, two_bytes, bytes_of_post, counted_posts}
 use Rattle.dted_write.specs.Cell.{column_of}
-
-range_next : (k n : ℕ) → k < n → range_with_len k (n - k) ≡ k ∷ range_with_len (k + 1) (n - (k + 1))
-range_next k n h = let more : n - k ≡ suc (n - (k + 1)) = omega arith in rw more refl
 
 -- one part more at the end of a text
 pub flat_next : (f : ℕ → List ℕ) (out : List ℕ) (k n : ℕ) → k < n → (out ++ f k) ++ flat_map f (range_with_len (k + 1) (n - (k + 1))) ≡ out ++ flat_map f (range_with_len k (n - k))
