@@ -3,9 +3,9 @@ use Rattle.std.proofs.Common.{arith, List, [], ◌∷◌}
 use Rattle.std.specs.Prelude.{ℤ, pos, ◌*ℤ◌, ◌≤ℤ◌, ◌<ℤ◌}
 use Rattle.std.specs.List.{AllByRecursion}
 use Rattle.std.proofs.lemmas.Int.{ints, by_lt_z}
+use Rattle.common_laws.proofs.Lists.{all_weaker}
 use Rattle.mesh_plane.specs.Plane.{TriangleHolds, IsCounterClockwise}
 use Rattle.mesh_plane.specs.Surface.{SameHeight}
-use Rattle.mesh_plane.proofs.Tilings.{all_map}
 use Rattle.mesh_check.specs.Slab.{Slab, under, over, IsSame, Member, Joined, HeightsJoined}
 use Rattle.mesh_check.proofs.Wedges.{beside}
 use Rattle.mesh_check.proofs.Leads.{lead, lead_at, rises, no_lead, still_left, still_right}
@@ -26,7 +26,7 @@ module _ (slab : Slab) (gap : slab.low <ℤ slab.high) (floor : pos 0 ≤ℤ sla
   IsTurned m = IsWedge slab m × IsCounterClockwise m.tri
 
   wedges : (ms : List Member) → AllByRecursion IsTurned ms → AllByRecursion (IsWedge slab) ms
-  wedges ms ws = all_map IsTurned (IsWedge slab) (λ m w. w.0) ms ws
+  wedges ms ws = all_weaker IsTurned (IsWedge slab) (λ m w. w.0) ms ws
 
   -- two neighbours, at a point that is not right of the first and not left of the second
   next_to : (m n : Member) → IsTurned m → IsTurned n → IsSame slab m.right n.left
@@ -71,7 +71,7 @@ module _ (slab : Slab) (gap : slab.low <ℤ slab.high) (floor : pos 0 ≤ℤ sla
             let d : pos 0 ≤ℤ beside n.right s x y = still_left n.left n.right s x y un
             (rises slab gap n.right ws.0.0.right) wide c in
             let held : TriangleHolds s x y n.tri = ws.0.0.holds s x y hs ly hy b d in
-            all_map (λ o. TriangleHolds s x y o.tri → SameHeight s x y n.tri o.tri)
+            all_weaker (λ o. TriangleHolds s x y o.tri → SameHeight s x y n.tri o.tri)
             (λ o. TriangleHolds s x y o.tri → SameHeight s x y m.tri o.tri)
             (λ o f h. same_through m.tri n.tri o.tri s x y ws.0.1 (next_to m n w ws.0 j.0 k.0 k.1 a b) (f h))
             ms (from_one n ms ws.0 ws.1 j.1 k.2 held)),

@@ -3,6 +3,7 @@ use Rattle.std.proofs.Common.{◌≡◌, ℕ, ◌<◌, refl, ap, sym, subst, ari
 use Rattle.std.specs.Prelude.{◌⊎◌, ℤ, pos, ◌+ℤ◌, ◌-ℤ◌, ◌*ℤ◌, ◌≤ℤ◌, ◌<ℤ◌, All, slice_index_or}
 use Rattle.std.specs.List.{AllByRecursion}
 use Rattle.std.proofs.lemmas.Int.{ints, by_lt_z}
+use Rattle.common_laws.proofs.Lists.{all_weaker}
 use Rattle.polynomial.proofs.Expressions.{var, num, add, sub, mul}
 use Rattle.polynomial.proofs.NormalForm.{by_ring}
 use Rattle.polynomial.proofs.Signs.{weaken, times_nonneg, times_pos}
@@ -10,7 +11,6 @@ use Rattle.mesh_plane.specs.declared.corner.Tri.{Tri}
 use Rattle.mesh_plane.specs.Plane.{IsCounterClockwise, TriangleHolds, TriangleHoldsInside, IsTileTri}
 use Rattle.mesh_plane.specs.Surface.{SameHeight}
 use Rattle.mesh_plane.specs.Cover.{Covers}
-use Rattle.mesh_plane.proofs.Tilings.{all_map}
 use Rattle.mesh_check.specs.Slab.{Slab, Segment, segment, under, over, Spans, IsDown, IsUp, IsSame, SameAt}
 use Rattle.mesh_check.specs.Slab.{HeightsJoined, Member, Joined, west}
 use Rattle.mesh_check.specs.Members.{IsSlab, IsAt, AreMembers, ArePlaced, HasHeights, IsListed, AgreesOn, over_both}
@@ -162,7 +162,7 @@ module _ (levels : List ℤ) (ts : List Tri) (placed : ArePlaced levels ts) (cov
 
   wholes : AllByRecursion (IsWhole slab gap (range_of levels ts placed ccw slab is).0
       (range_of levels ts placed ccw slab is).1) ms
-  wholes = all_map (IsListed slab ts) (λ m. IsWedge slab m × IsIn m.left × IsIn m.right)
+  wholes = all_weaker (IsListed slab ts) (λ m. IsWedge slab m × IsIn m.left × IsIn m.right)
       (λ m l. (wedge_m m l, in_down m.tri m.left (tile_tri m l) l.is.down, in_up m.tri m.right (tile_tri m l) l.is.up))
       ms lists
 

@@ -6,9 +6,9 @@ use Rattle.std.specs.List.{AllByRecursion}
 use Rattle.std.specs.List.Sorted.{IsStrictlyIncreasing}
 use Rattle.std.proofs.lemmas.Int.{ints, by_lt_z}
 use Rattle.std.proofs.lemmas.List.Kept.{AllPairs-from_increasing}
+use Rattle.common_laws.proofs.Lists.{all_weaker}
 use Rattle.mesh_plane.specs.declared.corner.Tri.{Tri}
 use Rattle.mesh_plane.proofs.ListWords.{all_to}
-use Rattle.mesh_plane.proofs.Tilings.{all_map}
 use Rattle.mesh_check.specs.declared.verdict.Finding.{Finding}
 use Rattle.mesh_check.specs.declared.verdict.Finding.TheVariants.{SlabGap}
 use Rattle.mesh_check.specs.declared.verdict.Verdict.TheVariants.{Found}
@@ -104,12 +104,12 @@ module _ (course : Course) (ready : IsCourse course) where
         }
 
         lower_ends : AllByRecursion (λ m. Witness below above ts below.high m.left) w.lower
-        lower_ends = all_map (λ m. IsWitness below.high w.lower w.upper m.left)
+        lower_ends = all_weaker (λ m. IsWitness below.high w.lower w.upper m.left)
             (λ m. Witness below above ts below.high m.left) (λ m k. to_witness m.left k) w.lower
             (all_to (λ m. IsWitness below.high w.lower w.upper m.left) w.lower w.ends.lower_ends)
 
         upper_ends : AllByRecursion (λ m. Witness below above ts below.high m.left) w.upper
-        upper_ends = all_map (λ m. IsWitness below.high w.lower w.upper m.left)
+        upper_ends = all_weaker (λ m. IsWitness below.high w.lower w.upper m.left)
             (λ m. Witness below above ts below.high m.left) (λ m k. to_witness m.left k) w.upper
             (all_to (λ m. IsWitness below.high w.lower w.upper m.left) w.upper w.ends.upper_ends)
 

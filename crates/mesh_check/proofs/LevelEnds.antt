@@ -4,11 +4,11 @@ use Rattle.std.proofs.Common.{◌≡◌, ℕ, refl, sym, subst, arith, List, [],
 use Rattle.std.specs.Prelude.{ℤ, pos, ◌*ℤ◌, ◌≤ℤ◌, ◌<ℤ◌, All, slice_index_or}
 use Rattle.std.specs.List.{AllByRecursion}
 use Rattle.std.proofs.lemmas.Int.{ints, by_lt_z}
+use Rattle.common_laws.proofs.Lists.{all_weaker}
 use Rattle.polynomial.proofs.Signs.{weaken}
 use Rattle.mesh_plane.specs.declared.corner.Tri.{Tri}
 use Rattle.mesh_plane.specs.Plane.{TriangleHolds, IsCounterClockwise}
 use Rattle.mesh_plane.specs.Surface.{SameHeight}
-use Rattle.mesh_plane.proofs.Tilings.{all_map}
 use Rattle.mesh_check.specs.Slab.{Slab, Segment, Member, under, over, IsSame, SameAt, east, west, Joined}
 use Rattle.mesh_check.specs.Members.{IsSlab, ArePlaced, IsWhole, IsListed, HoldsEnd, AgreesOn, AreMembers}
 use Rattle.mesh_check.proofs.Leads.{rises}
@@ -87,7 +87,7 @@ module _ (levels : List ℤ) (ts : List Tri) (placed : ArePlaced levels ts) (tur
         → C m.left × C m.right
     sides slab i move ms a j ws c m l =
         let ls = listed_all slab i.order ts ms a in
-        let us = all_map (IsListed slab ts) (λ k. Up k.left × Up k.right) (ups slab i) ms ls in
+        let us = all_weaker (IsListed slab ts) (λ k. Up k.left × Up k.right) (ups slab i) ms ls in
         let lefts = lefts_of ms us ws in
         let both = rights C Up slab move west ms (omega (arith, ints)) us (omega (arith, ints)) j lefts c in
         let here = (has_all slab i.order ts (m ∷ []) ms a ls (l, tt)).0 in (

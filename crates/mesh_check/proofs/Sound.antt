@@ -3,6 +3,7 @@ use Rattle.std.proofs.Common.{◌≡◌, ℕ, ◌<◌, refl, ap, sym, subst, ari
 use Rattle.std.specs.Prelude.{◌⊎◌, ℤ, pos, ◌+ℤ◌, ◌-ℤ◌, ◌*ℤ◌, ◌≤ℤ◌, ◌<ℤ◌, All, Any, Contains, slice_index_or}
 use Rattle.std.specs.List.{AllByRecursion}
 use Rattle.std.proofs.lemmas.Int.{ints, by_lt_z}
+use Rattle.common_laws.proofs.Lists.{all_weaker}
 use Rattle.polynomial.proofs.Expressions.{var, num, sub, mul}
 use Rattle.polynomial.proofs.NormalForm.{by_ring}
 use Rattle.polynomial.proofs.Signs.{weaken}
@@ -11,7 +12,6 @@ use Rattle.mesh_plane.specs.Plane.{doubled_area, IsCounterClockwise, TriangleHol
 use Rattle.mesh_plane.specs.Surface.{SameHeight}
 use Rattle.mesh_plane.specs.Cover.{Covers, HeldOnce, OneHeight}
 use Rattle.mesh_plane.proofs.ListWords.{all_to, all_from}
-use Rattle.mesh_plane.proofs.Tilings.{all_map}
 use Rattle.mesh_check.specs.Slab.{Slab, Member, IsMember, Joined, west}
 use Rattle.mesh_check.specs.Members.{IsSlab, IsAt, Reaches, AreMembers, ArePlaced, HasHeights, IsWhole, IsListed}
 use Rattle.mesh_check.specs.Members.{AgreesOn, IsSwept}
@@ -168,9 +168,9 @@ module _ (levels : List ℤ) (ts : List Tri) (placed : ArePlaced levels ts) (tur
         let w = slabs slab is in let r = range_of slab is in
         let ls = listed slab w.members w.are in
         some_any (TriangleHolds s x y) w.members
-        (some_with (λ m. TriangleHolds s x y m.tri) (λ m. IsAt ts m.number m.tri) w.members (all_map (IsListed slab ts)
+        (some_with (λ m. TriangleHolds s x y m.tri) (λ m. IsAt ts m.number m.tri) w.members (all_weaker (IsListed slab ts)
         (λ m. IsAt ts m.number m.tri) (λ m l. l.at) w.members ls)
-        (chain_full slab is.order r.0 r.1 s x y hs ly hy w.members w.joined (all_map (IsListed slab ts) (IsWedge slab)
+        (chain_full slab is.order r.0 r.1 s x y hs ly hy w.members w.joined (all_weaker (IsListed slab ts) (IsWedge slab)
         (λ m l. wedge_at slab is m l) w.members ls) a b))
 
     pub full : (s x y : ℤ) → pos 1 ≤ℤ s → IsTilePoint s x y → Any (TriangleHolds s x y) ts
@@ -217,7 +217,7 @@ module _ (levels : List ℤ) (ts : List Tri) (placed : ArePlaced levels ts) (tur
         two_of (λ m n. TriangleHoldsInside o ox oy m.tri → TriangleHoldsInside o ox oy n.tri → ⊥) (IsFor i t f.slab)
         (IsFor j u f.slab) w.members
         (chain_once f.slab f.is.order r.0 r.1 o ox oy ho (weaken f.low) f.high west w.members w.joined
-        (all_map (IsListed f.slab ts) (IsWedge f.slab) (λ m l. wedge_at f.slab f.is m l) w.members ls))
+        (all_weaker (IsListed f.slab ts) (IsWedge f.slab) (λ m l. wedge_at f.slab f.is m l) w.members ls))
         (λ m e g. omega (arith, l, e.0, g.0))
         (λ m n e g apart. apart (subst (λ (z : Tri). TriangleHoldsInside o ox oy z) (sym e.1) ha)
         (subst (λ (z : Tri). TriangleHoldsInside o ox oy z) (sym g.1) hb))
@@ -268,7 +268,7 @@ module _ (levels : List ℤ) (ts : List Tri) (placed : ArePlaced levels ts) (tur
         let ls = listed slab w.members w.are in
         two_of (λ m n. TriangleHolds s x y m.tri → TriangleHolds s x y n.tri → SameHeight s x y m.tri n.tri) (IsFor i t slab)
         (IsFor j u slab) w.members
-        (heights slab is.order r.0 r.1 s x y hs ly hy w.members (all_map (IsListed slab ts)
+        (heights slab is.order r.0 r.1 s x y hs ly hy w.members (all_weaker (IsListed slab ts)
         (λ m. IsWedge slab m × IsCounterClockwise m.tri) (λ m l. (
           wedge_at slab is m l,
           ccw m.number m.tri l.at,

@@ -3,6 +3,7 @@ use Rattle.std.proofs.Common.{◌≡◌, refl, ap, sym, arith, ◌∙◌, List, 
 use Rattle.std.specs.Prelude.{ℤ, pos, ◌+ℤ◌, ◌-ℤ◌, ◌*ℤ◌, ◌<ℤ◌, ◌⊎◌}
 use Rattle.std.specs.List.{AllByRecursion}
 use Rattle.std.proofs.lemmas.Int.{ints}
+use Rattle.common_laws.proofs.Lists.{all_append, all_weaker}
 use Rattle.polynomial.proofs.Expressions.{var, mul}
 use Rattle.polynomial.proofs.NormalForm.{by_ring}
 use Rattle.polynomial.proofs.Signs.{factor_nought}
@@ -10,7 +11,7 @@ use Rattle.mesh_plane.specs.Plane.{Point}
 use Rattle.mesh_plane.specs.Triangles.{Triple}
 use Rattle.mesh_plane.proofs.Turns.{turn}
 use Rattle.mesh_plane.proofs.Sweeps.{difference}
-use Rattle.mesh_plane.proofs.Tilings.{area, Within, Held, all_append, all_map}
+use Rattle.mesh_plane.proofs.Tilings.{area, Within, Held}
 
 -- a factor above 0 is cancelled
 pub cancelled : (w a b : ℤ) → pos 0 <ℤ w → w *ℤ a ≡ w *ℤ b → a ≡ b
@@ -60,7 +61,7 @@ module _ {A : Type 0} (at : A → Point) (z : A → ℤ) where
 
     pub cross_when : (ts us : List (Triple A)) → (Held at p ts → Held at p us → Cross ts us) → Cross ts us
     cross_when ts us f = all_when (λ t. Each (Agree t) us) ts (λ held.
-        all_map (λ t. Held at p us → Within at t p → Each (Agree t) us) (λ t. Within at t p
+        all_weaker (λ t. Held at p us → Within at t p → Each (Agree t) us) (λ t. Within at t p
         → Each (Agree t) us)
         (λ t g i. all_when (Agree t) us (λ h. g h i)) ts
         (all_later (Held at p us) (λ t. Within at t p → Each (Agree t) us) ts (λ h. f held h)))
@@ -125,8 +126,8 @@ module _ {A : Type 0} (at : A → Point) (z : A → ℤ) where
     pub cross_levels : (m l : ℤ) (ts us : List (Triple A)) → pos 0 <ℤ m → Has m l ts → Has m l us
         → Cross ts us
     cross_levels m l ts us hm h k =
-        all_map (λ t. Within at t p → AtLevel m l t) (λ t. Within at t p → Each (Agree t) us)
-        (λ t f i. all_map (λ u. Within at u p → AtLevel m l u) (λ u. Within at u p → Agree t u)
+        all_weaker (λ t. Within at t p → AtLevel m l t) (λ t. Within at t p → Each (Agree t) us)
+        (λ t f i. all_weaker (λ u. Within at u p → AtLevel m l u) (λ u. Within at u p → Agree t u)
         (λ u g j. levels_agree m l t u hm (f i) (g j)) us k) ts h
 
     -- some triangle holds the point and has the height l/m there
@@ -145,7 +146,7 @@ module _ {A : Type 0} (at : A → Point) (z : A → ℤ) where
     spread m l [] o h = elim h [ ]
     spread m l (t ∷ ts) o (inl h) = (
       (λ i. h.2),
-      all_map (λ u. Within at u p → Agree t u) (λ u. Within at u p → AtLevel m l u)
+      all_weaker (λ u. Within at u p → Agree t u) (λ u. Within at u p → AtLevel m l u)
           (λ u f i. agreed m l t u h.0 h.2 (f i)) ts (o.0 h.1),
     )
     spread m l (t ∷ ts) o (inr h) = ((λ i. head_level m l t ts (o.0 i) h), spread m l ts o.1 h)
@@ -159,13 +160,13 @@ module _ {A : Type 0} (at : A → Point) (z : A → ℤ) where
 
     has_left : (m l : ℤ) (ts us : List (Triple A)) → Cross ts us → Shown m l us → Has m l ts
     has_left m l ts us x s =
-        all_map (λ t. Within at t p → Each (Agree t) us) (λ t. Within at t p → AtLevel m l t)
+        all_weaker (λ t. Within at t p → Each (Agree t) us) (λ t. Within at t p → AtLevel m l t)
         (λ t f i. head_level m l t us (f i) s) ts x
 
     has_right : (m l : ℤ) (us vs : List (Triple A)) → Cross us vs → Shown m l us → Has m l vs
     has_right m l [] vs x s = elim s [ ]
     has_right m l (u ∷ us) vs x (inl s) =
-        all_map (λ v. Within at v p → Agree u v) (λ v. Within at v p → AtLevel m l v)
+        all_weaker (λ v. Within at v p → Agree u v) (λ v. Within at v p → AtLevel m l v)
         (λ v f i. agreed m l u v s.0 s.2 (f i)) vs (x.0 s.1)
     has_right m l (u ∷ us) vs x (inr s) = has_right m l us vs x.1 s
 

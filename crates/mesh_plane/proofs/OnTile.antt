@@ -3,11 +3,12 @@ use Rattle.std.proofs.Common.{arith, List, [], ◌∷◌, map, inl, inr}
 use Rattle.std.specs.Prelude.{ℤ, pos, All}
 use Rattle.std.specs.List.{AllByRecursion}
 use Rattle.std.proofs.lemmas.Int.{ints}
+use Rattle.common_laws.proofs.Lists.{all_weaker}
 use Rattle.mesh_plane.specs.Plane.{Point, IsOnTile, IsTileTri}
 use Rattle.mesh_plane.specs.Fan.{InRect, InsideRect}
 use Rattle.mesh_plane.specs.Triangles.{Triple}
 use Rattle.mesh_plane.proofs.Turns.{turn_at_first, turn_at_second, turned_on}
-use Rattle.mesh_plane.proofs.Tilings.{IsCcw, Within, Held, Tiling, all_map}
+use Rattle.mesh_plane.proofs.Tilings.{IsCcw, Within, Held, Tiling}
 use Rattle.mesh_plane.proofs.ListWords.{all_from, all_map_from}
 use Rattle.mesh_plane.proofs.Scales.{corner_of, placed, scaled}
 use Rattle.mesh_plane.proofs.TileSquare.{tile_at}
@@ -72,5 +73,5 @@ module _ {A : Type 0} (at : A → Point) (z : A → ℤ) where
   all_on_tile ts h =
       all_from IsTileTri (map (placed at z) ts)
       (all_map_from IsTileTri (placed at z) ts
-      (all_map (AreCorners (scaled at z (pos 1)) (InRect (tile_at (pos 1)))) (λ t. IsTileTri (placed at z t)) triangle_on ts
+      (all_weaker (AreCorners (scaled at z (pos 1)) (InRect (tile_at (pos 1)))) (λ t. IsTileTri (placed at z t)) triangle_on ts
       (corners_in (scaled at z (pos 1)) (InRect (tile_at (pos 1))) ts h.ccw h.within)))

@@ -3,6 +3,7 @@ use Rattle.std.proofs.Common.{◌≡◌, refl, arith, List, [], ◌∷◌, map, 
 use Rattle.std.specs.Prelude.{ℤ, pos, ◌-ℤ◌, ◌*ℤ◌, ◌≤ℤ◌, ◌<ℤ◌, ◌⊎◌, All, Any}
 use Rattle.std.specs.List.{AllByRecursion}
 use Rattle.std.proofs.lemmas.Int.{ints}
+use Rattle.common_laws.proofs.Lists.{all_weaker}
 use Rattle.polynomial.proofs.Expressions.{var, num, mul}
 use Rattle.polynomial.proofs.NormalForm.{by_ring}
 use Rattle.polynomial.proofs.Signs.{times_nonneg, times_pos, factor_nonneg, factor_pos}
@@ -13,7 +14,7 @@ use Rattle.mesh_plane.specs.Triangles.{Triple}
 use Rattle.mesh_plane.specs.Cover.{HeldOnce, Tiles}
 use Rattle.mesh_plane.proofs.Turns.{turn, turned, side_scaled}
 use Rattle.mesh_plane.proofs.Sweeps.{difference}
-use Rattle.mesh_plane.proofs.Tilings.{IsCcw, Within, Inside, Held, HeldInside, NoneTwice, Tiling, all_map}
+use Rattle.mesh_plane.proofs.Tilings.{IsCcw, Within, Inside, Held, HeldInside, NoneTwice, Tiling}
 use Rattle.mesh_plane.proofs.ListWords.{all_from, all_to, any_here, any_there, any_none, any_cases, pairs_none, pairs_cons, pairs_head, pairs_tail, all_map_from}
 
 -- ---- multiplied numbers keep their order
@@ -161,7 +162,7 @@ module _ {A : Type 0} (at : A → Point) (z : A → ℤ) where
   all_ccw ts h =
       all_from IsCounterClockwise (map placed ts)
       (all_map_from IsCounterClockwise placed ts
-      (all_map (IsCcw (scaled (pos 1))) (λ t. IsCounterClockwise (placed t)) ccw_out ts h))
+      (all_weaker (IsCcw (scaled (pos 1))) (λ t. IsCounterClockwise (placed t)) ccw_out ts h))
 
   -- what tiles a region at each scale
   pub tiles_at_each_scale : (region inside : ℤ → Point → Type 0) (ts : List (Triple A))

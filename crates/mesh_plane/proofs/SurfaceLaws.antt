@@ -2,6 +2,7 @@
 use Rattle.std.proofs.Common.{◌≡◌, refl, ap, sym, arith, ◌∙◌, subst, List, [], ◌∷◌}
 use Rattle.std.specs.Prelude.{◌↔◌, ℤ, pos, ◌+ℤ◌, ◌-ℤ◌, ◌*ℤ◌, ◌≤ℤ◌, ◌<ℤ◌, unsigned_abs, Contains}
 use Rattle.std.proofs.lemmas.Int.{ints}
+use Rattle.common_laws.proofs.Sizes.{near_of_size, size_of_near}
 use Rattle.polynomial.proofs.Expressions.{Expr, var, num, add, sub, mul}
 use Rattle.polynomial.proofs.NormalForm.{by_ring}
 use Rattle.polynomial.proofs.Signs.{times_nonneg, times_pos, factor_nonneg, weaken}
@@ -147,12 +148,6 @@ held_between t s x y m n w h =
 pub record IsNear (t h m l : ℤ) : Type 0 where
   pub above : (l -ℤ h *ℤ m) ≤ℤ (t *ℤ m)
   pub below : (h *ℤ m -ℤ l) ≤ℤ (t *ℤ m)
-
-pub near_of_size : (z t : ℤ) → pos (unsigned_abs z) ≤ℤ t → (z ≤ℤ t) × ((pos 0 -ℤ z) ≤ℤ t)
-near_of_size z t h = (grind (arith, ints), grind (arith, ints))
-
-pub size_of_near : (z t : ℤ) → z ≤ℤ t → (pos 0 -ℤ z) ≤ℤ t → pos (unsigned_abs z) ≤ℤ t
-size_of_near z t h k = grind (arith, ints)
 
 -- one fraction by another that is equal: l/m = x/d
 at_most_moved : (k m l d x : ℤ) → pos 0 <ℤ m → pos 0 <ℤ d → x *ℤ m ≡ l *ℤ d → l ≤ℤ (k *ℤ m) → x ≤ℤ (k *ℤ d)

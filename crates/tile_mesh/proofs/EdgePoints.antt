@@ -4,11 +4,12 @@ use Rattle.std.specs.Prelude.{ℤ, pos, ◌≤ℤ◌, ◌⊎◌}
 use Rattle.std.specs.List.{list_any, AllByRecursion}
 use Rattle.std.proofs.lemmas.Int.{ints}
 use Rattle.std.proofs.lemmas.Bool.{eqb-true, or_left, or_right, or_cases, leb-true, leb-false}
+use Rattle.common_laws.proofs.Lists.{all_append}
 use Rattle.common_laws.proofs.Orders.{equal_itself}
 use Rattle.mesh_plane.specs.Plane.{Point}
 use Rattle.mesh_plane.specs.Triangles.{Triple, Step, Outer, Inner, cornered, strip}
 use Rattle.mesh_plane.specs.Fan.{InRect}
-use Rattle.mesh_plane.proofs.Tilings.{IsCcw, Held, all_append}
+use Rattle.mesh_plane.proofs.Tilings.{IsCcw, Held}
 use Rattle.mesh_plane.proofs.Edges.{meets_a, meets_b, meets_c}
 use Rattle.mesh_plane.proofs.StripHeights.{outers}
 use Rattle.quad_split.specs.Split.{is_split}

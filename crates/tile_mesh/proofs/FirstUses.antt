@@ -5,9 +5,9 @@ use Rattle.std.specs.List.{position_or_len, list_any, IsDistinct, AllByRecursion
 use Rattle.std.proofs.lemmas.List.Elements.{Contains-append_right, Contains-append_cases}
 use Rattle.std.proofs.lemmas.Bool.{or_right}
 use Rattle.std.proofs.Math.Bool.{or-true, or-false, or_assoc}
+use Rattle.common_laws.proofs.Lists.{all_weaker}
 use Rattle.mesh_plane.specs.Triangles.{Triple}
 use Rattle.mesh_plane.proofs.ListWords.{all_from}
-use Rattle.mesh_plane.proofs.Tilings.{all_map}
 use Rattle.tile_mesh.specs.declared.point.GridPoint.{GridPoint}
 use Rattle.tile_mesh.specs.Sides.{grid_point}
 use Rattle.tile_mesh.specs.Numbers.{point_eq, first_uses, corners, numbered, with_point, with_points}
@@ -128,12 +128,12 @@ ordered all seen done (r ∷ rest) e s =
         → AllByRecursion (Later all (length done)) (cond b (first_uses seen rest) (r ∷ first_uses (seen ++ r ∷ []) rest))
         × Pairs (Before all) (cond b (first_uses seen rest) (r ∷ first_uses (seen ++ r ∷ []) rest))
     go true h f g =
-        (all_map (Later all (length (done ++ r ∷ []))) (Later all (length done)) (weaker _ (push_length done r)) (first_uses seen rest) (f h).0, (f h).1)
+        (all_weaker (Later all (length (done ++ r ∷ []))) (Later all (length done)) (weaker _ (push_length done r)) (first_uses seen rest) (f h).0, (f h).1)
     go false h f g =
         let at : position_or_len (point_eq r) all ≡ length done =
         ap (position_or_len (point_eq r)) (sym e) ∙ place_of r done rest (sym (s r) ∙ h) in (
-          (omega (arith, at), all_map (Later all (length (done ++ r ∷ []))) (Later all (length done)) (weaker _ (push_length done r)) (first_uses (seen ++ r ∷ []) rest) g.0),
-          (all_map (Later all (length (done ++ r ∷ []))) (Before all r) (λ p l. omega (arith, at, push_length done r, l)) (first_uses (seen ++ r ∷ []) rest) g.0, g.1),
+          (omega (arith, at), all_weaker (Later all (length (done ++ r ∷ []))) (Later all (length done)) (weaker _ (push_length done r)) (first_uses (seen ++ r ∷ []) rest) g.0),
+          (all_weaker (Later all (length (done ++ r ∷ []))) (Before all r) (λ p l. omega (arith, at, push_length done r, l)) (first_uses (seen ++ r ∷ []) rest) g.0, g.1),
         )
 
 -- points in the order of their first use are apart
@@ -149,7 +149,7 @@ distinct_from : (all ks : List GridPoint) → Pairs (Before all) ks → IsDistin
 unfolding IsDistinct
 distinct_from all [] h = tt
 distinct_from all (k ∷ ks) h = (
-  all_map (Before all k) (λ q. point_eq k q ≡ false) (apart_by_use all k) ks h.0,
+  all_weaker (Before all k) (λ q. point_eq k q ≡ false) (apart_by_use all k) ks h.0,
   distinct_from all ks h.1,
 )
 

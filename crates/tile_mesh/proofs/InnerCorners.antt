@@ -4,9 +4,9 @@ use Rattle.std.specs.Prelude.{ℤ, ◌⊎◌, Contains}
 use Rattle.std.specs.List.{AllByRecursion}
 use Rattle.std.proofs.lemmas.Nat.{pow_pos}
 use Rattle.std.proofs.lemmas.List.Elements.{Contains-append_right}
+use Rattle.common_laws.proofs.Lists.{all_weaker}
 use Rattle.mesh_plane.specs.Quadtree.{line_of}
 use Rattle.mesh_plane.proofs.ListWords.{all_from}
-use Rattle.mesh_plane.proofs.Tilings.{all_map}
 use Rattle.quad_split.specs.Split.{is_split}
 use Rattle.quad_split.proofs.Nodes.{node_x, node_y, is_node_yes, level_small}
 use Rattle.terrain_base.specs.declared.side.Side.{Side}
@@ -278,7 +278,7 @@ module _ (grid : List ℤ) (tol : ℕ) where
     -- ---- order
     above_all : (a c : ℕ) (xs : List ℕ) → Rises a xs c → AllByRecursion (λ x. a < x) xs
     above_all a c [] r = tt
-    above_all a c (x ∷ xs) r = (r.0, all_map (λ y. x < y) (λ y. a < y) (λ y l. omega (arith, r.0, l)) xs (above_all x c xs r.1))
+    above_all a c (x ∷ xs) r = (r.0, all_weaker (λ y. x < y) (λ y. a < y) (λ y l. omega (arith, r.0, l)) xs (above_all x c xs r.1))
 
     ordered : (a c : ℕ) (xs : List ℕ) → Rises a xs c → Pairs (λ i j. i < j) (a ∷ xs)
     ordered a c [] r = (tt, tt)

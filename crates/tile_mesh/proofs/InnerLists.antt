@@ -3,7 +3,7 @@ use Rattle.std.proofs.Common.{◌≡◌, ℕ, zero, suc, ◌+◌, ◌-◌, ◌*�
 use Rattle.std.specs.Prelude.{if◌then◌else◌}
 use Rattle.std.specs.List.{AllByRecursion}
 use Rattle.std.proofs.Math.Nat.{pow-succ'}
-use Rattle.mesh_plane.proofs.Tilings.{all_append}
+use Rattle.common_laws.proofs.Lists.{all_append}
 use Rattle.mesh_plane.specs.Quadtree.{line_of}
 use Rattle.tile_mesh.specs.Rule.{leaf_ends}
 

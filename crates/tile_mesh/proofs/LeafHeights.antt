@@ -4,12 +4,13 @@ use Rattle.std.specs.Prelude.{ℤ, pos, ◌*ℤ◌, ◌≤ℤ◌, if◌then◌el
 use Rattle.std.specs.List.{AllByRecursion}
 use Rattle.std.proofs.lemmas.Int.{ints}
 use Rattle.std.proofs.lemmas.Bool.{leb-true, leb-false}
+use Rattle.common_laws.proofs.Lists.{all_append}
 use Rattle.mesh_plane.specs.Plane.{Point, point}
 use Rattle.mesh_plane.specs.Triangles.{Triple, fan, tri_of}
 use Rattle.mesh_plane.specs.Fan.{south_of, east_of, north_of, west_of}
 use Rattle.mesh_plane.specs.Quadtree.{line_of, midpoint, Midpoints, leaf_ring, leaf, smallest, leaves}
 use Rattle.mesh_plane.proofs.ListWords.{all_to}
-use Rattle.mesh_plane.proofs.Tilings.{IsCcw, area, all_append}
+use Rattle.mesh_plane.proofs.Tilings.{IsCcw, area}
 use Rattle.mesh_plane.proofs.Heights.{Shown, lift}
 use Rattle.mesh_plane.proofs.Edges.{Meets, meets_a, meets_b, meets_c}
 use Rattle.mesh_plane.proofs.Quads.{leaf_tiles, smallest_tiles, line_left, line_right}

@@ -6,10 +6,10 @@ use Rattle.std.proofs.lemmas.Nat.{pow_pos}
 use Rattle.std.proofs.lemmas.Grind.{flat_map-append}
 use Rattle.std.proofs.lemmas.List.Elements.{Contains-append_left, Contains-append_right, All-contains}
 use Rattle.std.proofs.Math.Nat.{pow-succ'}
+use Rattle.common_laws.proofs.Lists.{all_append, all_weaker}
 use Rattle.mesh_plane.specs.Triangles.{Triple}
 use Rattle.mesh_plane.specs.Quadtree.{leaves}
 use Rattle.mesh_plane.proofs.ListWords.{all_from}
-use Rattle.mesh_plane.proofs.Tilings.{all_append, all_map}
 use Rattle.quad_split.specs.Midpoints.{midpoints_of}
 use Rattle.quad_split.specs.Node.{is_node}
 use Rattle.quad_split.specs.Split.{is_split}
@@ -136,12 +136,12 @@ begin_within p zero x y = (starts zero x y, tt)
 begin_within p (suc k) x y =
     go (p (suc k) x y) _
     (all_append (BeginsIn (suc k) x y) _ _
-    (all_map (BeginsIn k (2 * x) (2 * y)) (BeginsIn (suc k) x y) (wider₁ k x y) _ (begin_within p k (2 * x) (2 * y)))
+    (all_weaker (BeginsIn k (2 * x) (2 * y)) (BeginsIn (suc k) x y) (wider₁ k x y) _ (begin_within p k (2 * x) (2 * y)))
     (all_append (BeginsIn (suc k) x y) _ _
-    (all_map (BeginsIn k (2 * x + 1) (2 * y)) (BeginsIn (suc k) x y) (wider₂ k x y) _ (begin_within p k (2 * x + 1) (2 * y)))
+    (all_weaker (BeginsIn k (2 * x + 1) (2 * y)) (BeginsIn (suc k) x y) (wider₂ k x y) _ (begin_within p k (2 * x + 1) (2 * y)))
     (all_append (BeginsIn (suc k) x y) _ _
-    (all_map (BeginsIn k (2 * x) (2 * y + 1)) (BeginsIn (suc k) x y) (wider₃ k x y) _ (begin_within p k (2 * x) (2 * y + 1)))
-    (all_map (BeginsIn k (2 * x + 1) (2 * y + 1)) (BeginsIn (suc k) x y) (wider₄ k x y) _ (begin_within p k (2 * x + 1) (2 * y + 1))))))
+    (all_weaker (BeginsIn k (2 * x) (2 * y + 1)) (BeginsIn (suc k) x y) (wider₃ k x y) _ (begin_within p k (2 * x) (2 * y + 1)))
+    (all_weaker (BeginsIn k (2 * x + 1) (2 * y + 1)) (BeginsIn (suc k) x y) (wider₄ k x y) _ (begin_within p k (2 * x + 1) (2 * y + 1))))))
   where
     go : (b : Bool) (ns : List NodePlace) → AllByRecursion (BeginsIn (suc k) x y) ns
         → AllByRecursion (BeginsIn (suc k) x y) (cond b ns (node (suc k) x y ∷ []))
@@ -155,7 +155,7 @@ apart_append : (A B : NodePlace → Type 0) → ((n m : NodePlace) → A n → B
     → AllByRecursion A xs → AllByRecursion B ys → Apart xs → Apart ys → Apart (xs ++ ys)
 apart_append A B f [] ys a b c d = d
 apart_append A B f (x ∷ xs) ys a b c d = (
-  all_append (λ m. x ≢ m) xs ys c.0 (all_map B (λ m. x ≢ m) (λ m h. f x m a.0 h) ys b),
+  all_append (λ m. x ≢ m) xs ys c.0 (all_weaker B (λ m. x ≢ m) (λ m h. f x m a.0 h) ys b),
   apart_append A B f xs ys a.1 b c.1 d,
 )
 
@@ -169,15 +169,15 @@ all_apart p (suc k) x y =
     go (p (suc k) x y) (s₁ ++ (s₂ ++ (s₃ ++ s₄)))
     (apart_append (BeginsIn k (2 * x) (2 * y)) (Beyond k x y) (apart₁ k x y) s₁ (s₂ ++ (s₃ ++ s₄)) b₁
     (all_append (Beyond k x y) s₂ (s₃ ++ s₄)
-    (all_map (BeginsIn k (2 * x + 1) (2 * y)) (Beyond k x y) (λ n h. inl h.west) s₂ b₂)
+    (all_weaker (BeginsIn k (2 * x + 1) (2 * y)) (Beyond k x y) (λ n h. inl h.west) s₂ b₂)
     (all_append (Beyond k x y) s₃ s₄
-    (all_map (BeginsIn k (2 * x) (2 * y + 1)) (Beyond k x y) (λ n h. inr h.south) s₃ b₃)
-    (all_map (BeginsIn k (2 * x + 1) (2 * y + 1)) (Beyond k x y) (λ n h. inr h.south) s₄ b₄)))
+    (all_weaker (BeginsIn k (2 * x) (2 * y + 1)) (Beyond k x y) (λ n h. inr h.south) s₃ b₃)
+    (all_weaker (BeginsIn k (2 * x + 1) (2 * y + 1)) (Beyond k x y) (λ n h. inr h.south) s₄ b₄)))
     (all_apart p k (2 * x) (2 * y))
     (apart_append (BeginsIn k (2 * x + 1) (2 * y)) (North k x y) (apart₂ k x y) s₂ (s₃ ++ s₄) b₂
     (all_append (North k x y) s₃ s₄
-    (all_map (BeginsIn k (2 * x) (2 * y + 1)) (North k x y) (λ n h. h.south) s₃ b₃)
-    (all_map (BeginsIn k (2 * x + 1) (2 * y + 1)) (North k x y) (λ n h. h.south) s₄ b₄))
+    (all_weaker (BeginsIn k (2 * x) (2 * y + 1)) (North k x y) (λ n h. h.south) s₃ b₃)
+    (all_weaker (BeginsIn k (2 * x + 1) (2 * y + 1)) (North k x y) (λ n h. h.south) s₄ b₄))
     (all_apart p k (2 * x + 1) (2 * y))
     (apart_append (BeginsIn k (2 * x) (2 * y + 1)) (BeginsIn k (2 * x + 1) (2 * y + 1)) (apart₃ k x y) s₃ s₄ b₃ b₄
     (all_apart p k (2 * x) (2 * y + 1)) (all_apart p k (2 * x + 1) (2 * y + 1)))))

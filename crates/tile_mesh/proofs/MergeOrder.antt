@@ -3,10 +3,10 @@ use Rattle.std.proofs.Common.{◌≡◌, ℕ, ◌<◌, ◌≤◌, arith, Bool, t
 use Rattle.std.specs.Prelude.{AllPairs}
 use Rattle.std.specs.List.{AllByRecursion}
 use Rattle.std.proofs.lemmas.Bool.{leb-true, leb-false}
+use Rattle.common_laws.proofs.Lists.{all_weaker}
 use Rattle.mesh_plane.specs.Triangles.{Step, Outer, Inner}
 use Rattle.mesh_plane.proofs.StripHeights.{outers, inners}
 use Rattle.mesh_plane.proofs.ListWords.{all_from, all_to, pairs_none, pairs_cons, pairs_head, pairs_tail}
-use Rattle.mesh_plane.proofs.Tilings.{all_map}
 use Rattle.tile_mesh.specs.Merge.{outer_after, merge}
 use Rattle.tile_mesh.specs.Merging.{outers_in, inners_in, ComesBefore, IsMerge}
 use Rattle.tile_mesh.proofs.Merges.{merge_outers, merge_inners}
@@ -52,10 +52,10 @@ inner_pairs [] h = tt
 inner_pairs (y ∷ ys) h = (inner_each (ComesBefore (Inner y)) ys h.0, inner_pairs ys h.1)
 
 above : (a b : ℕ) (xs : List ℕ) → a < b → AllByRecursion (λ x. b < x) xs → AllByRecursion (λ x. a < x) xs
-above a b xs l h = all_map (λ x. b < x) (λ x. a < x) (λ x k. omega (arith, l, k)) xs h
+above a b xs l h = all_weaker (λ x. b < x) (λ x. a < x) (λ x k. omega (arith, l, k)) xs h
 
 at_least : (a b : ℕ) (xs : List ℕ) → a ≤ b → AllByRecursion (λ x. b < x) xs → AllByRecursion (λ x. a ≤ x) xs
-at_least a b xs l h = all_map (λ x. b < x) (λ x. a ≤ x) (λ x k. omega (arith, l, k)) xs h
+at_least a b xs l h = all_weaker (λ x. b < x) (λ x. a ≤ x) (λ x k. omega (arith, l, k)) xs h
 
 after_pairs : (x : ℕ) (xs : List ℕ) → Pairs (λ i j. i < j) (x ∷ xs)
     → ((zs : List ℕ) → Pairs (λ i j. i < j) zs → Pairs ComesBefore (merge xs zs))
