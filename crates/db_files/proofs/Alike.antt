@@ -3,6 +3,7 @@ use Rattle.std.proofs.Common.{◌≡◌, ℕ, zero, suc, Bool, true, false, List
 use Rattle.std.specs.List.{AllByRecursion}
 use Rattle.std.specs.FinMap.{get, get-insert, get-remove}
 use Rattle.std.specs.FinSet.{contains}
+use Rattle.std.proofs.lemmas.Bool.{both_ways}
 use Rattle.terrain_base.specs.declared.cell_key.CellKey.{CellKey}
 use Rattle.terrain_base.specs.declared.name.Key.{Key}
 use Rattle.terrain_base.specs.declared.name.Key.TheVariants.{Manifest, Cell, Terrain, Note}
@@ -66,11 +67,8 @@ erase_tile keys t = ((λ key known. name_other (Cell key) (Terrain t) (λ e. cc)
 pub write_manifest : (keys : Shapes) (text : List ℕ) → AllByRecursion (IsOfNoCell keys) (Write Manifest text ∷ [])
 write_manifest keys text = ((λ key known. name_other (Cell key) Manifest (λ e. cc)), tt)
 
-refuted : (b : Bool) → b ≡ true → b ≡ false → ⊥
-refuted b is not = let e : true ≡ false = sym is ∙ not in cc
-
 -- a name that is found extra is of no row's cell
 pub erase_extra : (rows : List Summary) (name : Key) (extra : Bool) → extra ≡ true → ((key : CellKey) → name ≡ Cell key → has_row rows key ≡ true → extra ≡ false)
     → AllByRecursion (IsOfNoCell (shapes_of_rows rows)) (Erase name ∷ [])
 erase_extra rows name extra is kept =
-    ((λ key known. name_other (Cell key) name (λ e. refuted extra is (kept key (sym e) (sym (known_rows rows key) ∙ known)))), tt)
+    ((λ key known. name_other (Cell key) name (λ e. both_ways extra (kept key (sym e) (sym (known_rows rows key) ∙ known)) is)), tt)

@@ -1,9 +1,10 @@
 -- Rows by their keys, and the rows of a state.
-use Rattle.std.proofs.Common.{◌≡◌, ℕ, Bool, true, false, ◌||◌, ◌&&◌, not, is_some, List, [], ◌∷◌, map, refl, sym, ap, ◌∙◌, arith}
+use Rattle.std.proofs.Common.{◌≡◌, ℕ, ◌||◌, not, is_some, List, [], ◌∷◌, map, refl, sym, ap, ◌∙◌, arith}
 use Rattle.std.specs.List.{list_any}
 use Rattle.std.specs.List.Sorted.{IsStrictlySortedBy}
 use Rattle.std.specs.FinMap.{get, keys, entries, contains_key-keys}
 use Rattle.std.specs.Ordering.{eq_by_cmp}
+use Rattle.std.proofs.Math.Bool.{and-true}
 use Rattle.terrain_base.specs.declared.cell_key.CellKey.{CellKey}
 use Rattle.terrain_base.specs.declared.name.Key.{Key}
 use Rattle.terrain_base.specs.declared.name.Key.TheVariants.{Cell}
@@ -26,7 +27,8 @@ entry_keys (e ∷ es) = ap (λ ks. e.0 ∷ ks) (entry_keys es)
 pub keys_of_rows : (cells : Cells) → row_keys (summaries_of cells) ≡ keys cells
 keys_of_rows cells = entry_keys (entries cells)
 
-any_key : (rows : List Summary) (key : CellKey) → has_row rows key ≡ list_any (eq_by_cmp key_cmp key) (row_keys rows)
+-- a key has a row where it is among the keys of the rows
+pub any_key : (rows : List Summary) (key : CellKey) → has_row rows key ≡ list_any (eq_by_cmp key_cmp key) (row_keys rows)
 any_key [] key = refl
 any_key (row ∷ rows) key = ap (λ b. eq_by_cmp key_cmp key (row_key row) || b) (any_key rows key)
 
@@ -41,14 +43,10 @@ no_rows = record { ascend = tt; few = omega arith }
 
 -- ---- what is no file
 
-and_true : (b : Bool) → (b && true) ≡ b
-and_true true = refl
-and_true false = refl
-
 -- a cell's name is extra where its key has no row
 pub cell_extra : (s : State) {rows : List Summary} (key : CellKey) (name : Key) → rows ≡ summaries_of s.cells → Cell key ≡ name → not (has_row rows key) ≡ is_extra s name
 cell_extra s key name rows_is name_is =
-    ap not (ap (λ rows. has_row rows key) rows_is ∙ row_there s.cells key) ∙ sym (and_true (not (is_some (get s.cells key)))) ∙ ap (is_extra s) name_is
+    ap not (ap (λ rows. has_row rows key) rows_is ∙ row_there s.cells key) ∙ sym (and-true (not (is_some (get s.cells key)))) ∙ ap (is_extra s) name_is
 
 -- ---- the texts of a state
 

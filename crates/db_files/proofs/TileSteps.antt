@@ -33,7 +33,7 @@ use Rattle.db_files.specs.Serving.{Serves, Closing, count_existing}
 abbrev pub tile_steps : State → List TileId → List Step
 tile_steps s ts = steps_to (file_of s) (tile_names ts)
 
-names_append : (ts us : List TileId) → tile_names (ts ++ us) ≡ tile_names ts ++ tile_names us
+pub names_append : (ts us : List TileId) → tile_names (ts ++ us) ≡ tile_names ts ++ tile_names us
 names_append [] us = refl
 names_append (t ∷ ts) us = ap (λ ns. Terrain t ∷ Note t ∷ ns) (names_append ts us)
 
