@@ -1,193 +1,184 @@
--- The two formats: a pattern fixes its number, and a number its pattern.
-use Rattle.std.proofs.Common.{◌≡◌, ℕ, zero, suc, ℤ, pos, negsuc, ◌+◌, ◌-◌, ◌*◌, ◌^◌, ◌<◌, ◌≤◌}
+-- A format: a pattern fixes its number, and a number its pattern.
+use Rattle.std.proofs.Common.{◌≡◌, ℕ, zero, suc, ℤ, pos, negsuc, ◌+◌, ◌-◌, ◌*◌, ◌/◌, ◌%◌, ◌^◌, ◌<◌, ◌≤◌}
 use Rattle.std.proofs.Common.{refl, ap, sym, ◌∙◌, arith}
-use Rattle.std.proofs.Math.Nat.{eq_of_mul-eq-mul_right, mul_assoc}
-use Rattle.std.proofs.lemmas.Nat.{pow-add, pow_pos}
+use Rattle.std.proofs.Math.Nat.{eq_of_mul-eq-mul_right, mul_assoc, zero-div, zero-mod}
+use Rattle.std.proofs.lemmas.Nat.{pow-add, pow_pos, shr-shr, shr_split, shr_high, mod_low, mod_below}
 use Rattle.std.proofs.lemmas.Option.{none-some}
 use Rattle.std.specs.Prelude.{Option, Some, None, IfSome, IfNone, unsigned_abs}
 use Rattle.std.specs.Option.{OnSome}
-use Rattle.float_bits.specs.Binary32.{IsNormal32, IsBits32, sign32, exponent32, fraction32}
-use Rattle.float_bits.specs.Binary64.{IsNormal64, IsBits64, sign64, exponent64, fraction64}
-use Rattle.float_bits.proofs.Significands.{IsPlaced, IsPlaced32, same_exponent, same_significand, moved}
+use Rattle.float_bits.specs.Format.{Format, scale_of, sign_of, exponent_of, fraction_of, IsNormal, IsPattern, joined}
+use Rattle.float_bits.specs.Binary32.{binary32, IsBits32}
+use Rattle.float_bits.specs.Binary64.{binary64, IsBits64}
+use Rattle.float_bits.proofs.Significands.{IsPlaced, twice, same_exponent, same_significand}
+
+-- the sign bit stands above the exponent field
+above_exponent : (format : Format) (x : ℕ) → x / 2 ^ format.fraction_width / 2 ^ format.exponent_width ≡ sign_of format x
+above_exponent format x = shr-shr x format.fraction_width format.exponent_width
 
 -- a pattern put together has its fields
-fields64 : (b e f : ℕ) → b < 2 → e < 2 ^ 11 → f < 2 ^ 52 →
-    (sign64 (b * 2 ^ 63 + e * 2 ^ 52 + f) ≡ b)
-    × (exponent64 (b * 2 ^ 63 + e * 2 ^ 52 + f) ≡ e)
-    × (fraction64 (b * 2 ^ 63 + e * 2 ^ 52 + f) ≡ f)
-fields64 b e f p q r = (omega arith, omega arith, omega arith)
-
-fields32 : (b e f : ℕ) → b < 2 → e < 2 ^ 8 → f < 2 ^ 23 →
-    (sign32 (b * 2 ^ 31 + e * 2 ^ 23 + f) ≡ b)
-    × (exponent32 (b * 2 ^ 31 + e * 2 ^ 23 + f) ≡ e)
-    × (fraction32 (b * 2 ^ 31 + e * 2 ^ 23 + f) ≡ f)
-fields32 b e f p q r = (omega arith, omega arith, omega arith)
-
--- a placed size, put together with its exponent field
-pub normal64_is : (b n s p : ℕ) → b < 2 → s ≤ 63 → IsPlaced n p →
-    IsNormal64 b n s (b * 2 ^ 63 + (1075 - p - s) * 2 ^ 52 + (n * 2 ^ p - 2 ^ 52))
-normal64_is b n s p bit h placed =
-    let e = 1075 - p - s in
-    let f = n * 2 ^ p - 2 ^ 52 in
-    let fields = fields64 b e f bit (omega (arith, placed.few)) (omega (arith, placed.low, placed.high)) in
-    let whole : 2 ^ 52 + f ≡ n * 2 ^ p = omega (arith, placed.low) in
-    let reach : p ≡ 1075 - (e + s) = omega (arith, placed.few) in
-    let value : (2 ^ 52 + f) * 2 ^ e * 2 ^ s ≡ n * 2 ^ 1075 =
-    mul_assoc (2 ^ 52 + f) (2 ^ e) (2 ^ s) ∙ ap (λ x. (2 ^ 52 + f) * x) (sym (pow-add 2 e s))
-    ∙ moved (2 ^ 52 + f) n (e + s) 1075 (omega (arith, placed.few))
-    (ap (λ i. n * 2 ^ i) (sym reach) ∙ sym whole) in
-    record {
-      sign = fields.0;
-      exponent = omega (arith, fields.1, placed.few);
-      value = ap (λ x. (2 ^ 52 + x) * 2 ^ exponent64 (b * 2 ^ 63 + e * 2 ^ 52 + f) * 2 ^ s) fields.2
-          ∙ ap (λ x. (2 ^ 52 + f) * 2 ^ x * 2 ^ s) fields.1 ∙ value;
-    }
-
-pub normal32_is : (b n p : ℕ) → b < 2 → IsPlaced32 n p →
-    IsNormal32 b n (b * 2 ^ 31 + (150 - p) * 2 ^ 23 + (n * 2 ^ p - 2 ^ 23))
-normal32_is b n p bit placed =
-    let e = 150 - p in
-    let f = n * 2 ^ p - 2 ^ 23 in
-    let fields = fields32 b e f bit (omega (arith, placed.few)) (omega (arith, placed.low, placed.high)) in
-    let whole : 2 ^ 23 + f ≡ n * 2 ^ p = omega (arith, placed.low) in
-    let reach : p ≡ 150 - e = omega (arith, placed.few) in
-    record {
-      sign = fields.0;
-      exponent = omega (arith, fields.1, placed.few);
-      value = ap (λ x. (2 ^ 23 + x) * 2 ^ exponent32 (b * 2 ^ 31 + e * 2 ^ 23 + f)) fields.2
-          ∙ ap (λ x. (2 ^ 23 + f) * 2 ^ x) fields.1
-          ∙ moved (2 ^ 23 + f) n e 150 (omega arith) (ap (λ i. n * 2 ^ i) (sym reach) ∙ sym whole);
-    }
+fields : (format : Format) (b e f : ℕ) → e < 2 ^ format.exponent_width → f < 2 ^ format.fraction_width →
+    (sign_of format (joined format b e f) ≡ b)
+    × (exponent_of format (joined format b e f) ≡ e)
+    × (fraction_of format (joined format b e f) ≡ f)
+fields format b e f small below =
+    let w = format.exponent_width in
+    let t = format.fraction_width in
+    let high = b * 2 ^ w + e in
+    let whole : joined format b e f ≡ high * 2 ^ t + f = omega (arith, ap (λ x. b * x) (pow-add 2 t w)) in
+    let upper : joined format b e f / 2 ^ t ≡ high = ap (λ x. x / 2 ^ t) whole ∙ shr_high high t f below in (
+      sym (above_exponent format (joined format b e f)) ∙ ap (λ x. x / 2 ^ w) upper ∙ shr_high b w e small,
+      ap (λ x. x % 2 ^ w) upper ∙ mod_low b w e small,
+      ap (λ x. x % 2 ^ t) whole ∙ mod_low high t f below,
+    )
 
 -- equal fields are equal patterns
-spelled64 : (x y : ℕ) → sign64 x ≡ sign64 y → exponent64 x ≡ exponent64 y → fraction64 x ≡ fraction64 y →
-    x ≡ y
-spelled64 x y p q r = omega arith
+spelled : (format : Format) (x y : ℕ) → sign_of format x ≡ sign_of format y →
+    exponent_of format x ≡ exponent_of format y → fraction_of format x ≡ fraction_of format y → x ≡ y
+spelled format x y p q r =
+    let w = format.exponent_width in
+    let t = format.fraction_width in
+    let sign : x / 2 ^ t / 2 ^ w ≡ y / 2 ^ t / 2 ^ w = above_exponent format x ∙ p ∙ sym (above_exponent format y) in
+    let upper : x / 2 ^ t ≡ y / 2 ^ t =
+    sym (shr_split (x / 2 ^ t) w) ∙ ap (λ i. i * 2 ^ w + x / 2 ^ t % 2 ^ w) sign
+    ∙ ap (λ i. y / 2 ^ t / 2 ^ w * 2 ^ w + i) q ∙ shr_split (y / 2 ^ t) w in
+    sym (shr_split x t) ∙ ap (λ i. i * 2 ^ t + x % 2 ^ t) upper ∙ ap (λ i. y / 2 ^ t * 2 ^ t + i) r ∙ shr_split y t
 
-spelled32 : (x y : ℕ) → sign32 x ≡ sign32 y → exponent32 x ≡ exponent32 y → fraction32 x ≡ fraction32 y →
-    x ≡ y
-spelled32 x y p q r = omega arith
+-- powers of a significand's size gathered
+gathered : (n p e s : ℕ) → n * 2 ^ p * 2 ^ e * 2 ^ s ≡ n * 2 ^ (e + p + s)
+gathered n p e s =
+    let powers : 2 ^ (e + p + s) ≡ 2 ^ e * 2 ^ p * 2 ^ s =
+    pow-add 2 (e + p) s ∙ ap (λ i. i * 2 ^ s) (pow-add 2 e p) in
+    omega (arith, ap (λ i. n * i) powers)
+
+-- a placed size, put together with its exponent field
+pub normal_is : (format : Format) (b n s p e : ℕ) → IsPlaced format.fraction_width n p →
+    e + p + s ≡ scale_of format → 0 < e → e + 2 ≤ 2 ^ format.exponent_width →
+    IsNormal format b n s (joined format b e (n * 2 ^ p - 2 ^ format.fraction_width))
+normal_is format b n s p e placed reach above below =
+    let t = format.fraction_width in
+    let f = n * 2 ^ p - 2 ^ t in
+    let own = fields format b e f (omega arith) (omega (arith, placed.low, placed.high, twice t)) in
+    let whole : 2 ^ t + f ≡ n * 2 ^ p = omega (arith, placed.low) in
+    record {
+      sign = own.0;
+      exponent = omega (arith, own.1);
+      value = ap (λ x. (2 ^ t + x) * 2 ^ exponent_of format (joined format b e f) * 2 ^ s) own.2
+          ∙ ap (λ x. (2 ^ t + f) * 2 ^ x * 2 ^ s) own.1 ∙ ap (λ x. x * 2 ^ e * 2 ^ s) whole
+          ∙ gathered n p e s ∙ ap (λ i. n * 2 ^ i) reach;
+    }
 
 -- the same sign, size and shift make the same pattern
-pub same_pattern64 : (b n s x y : ℕ) → IsNormal64 b n s x → IsNormal64 b n s y → x ≡ y
-same_pattern64 b n s x y p q =
-    let a = 2 ^ 52 + fraction64 x in
-    let c = 2 ^ 52 + fraction64 y in
-    let both = eq_of_mul-eq-mul_right (2 ^ s) (pow_pos s)
-    (a * 2 ^ exponent64 x) (c * 2 ^ exponent64 y) (p.value ∙ sym q.value) in
-    let e : exponent64 x ≡ exponent64 y =
-    same_exponent a c (exponent64 x) (exponent64 y) (omega arith) (omega arith) both in
-    let f : a ≡ c = same_significand a c (exponent64 x) (exponent64 y) e both in
-    spelled64 x y (p.sign ∙ sym q.sign) e (omega (arith, f))
-
-pub same_pattern32 : (b n x y : ℕ) → IsNormal32 b n x → IsNormal32 b n y → x ≡ y
-same_pattern32 b n x y p q =
-    let a = 2 ^ 23 + fraction32 x in
-    let c = 2 ^ 23 + fraction32 y in
-    let both = p.value ∙ sym q.value in
-    let e : exponent32 x ≡ exponent32 y =
-    same_exponent a c (exponent32 x) (exponent32 y) (omega arith) (omega arith) both in
-    let f : a ≡ c = same_significand a c (exponent32 x) (exponent32 y) e both in
-    spelled32 x y (p.sign ∙ sym q.sign) e (omega (arith, f))
+same_pattern : (format : Format) (b n s x y : ℕ) → IsNormal format b n s x → IsNormal format b n s y → x ≡ y
+same_pattern format b n s x y p q =
+    let t = format.fraction_width in
+    let d = exponent_of format x in
+    let e = exponent_of format y in
+    let f = fraction_of format x in
+    let g = fraction_of format y in
+    let few : f < 2 ^ t = mod_below x (2 ^ t) (pow_pos t) in
+    let less : g < 2 ^ t = mod_below y (2 ^ t) (pow_pos t) in
+    let both : (2 ^ t + f) * 2 ^ d ≡ (2 ^ t + g) * 2 ^ e =
+    eq_of_mul-eq-mul_right (2 ^ s) (pow_pos s) ((2 ^ t + f) * 2 ^ d) ((2 ^ t + g) * 2 ^ e) (p.value ∙ sym q.value) in
+    let exponent : d ≡ e = same_exponent (2 ^ t + f) (2 ^ t + g) d e (omega arith) (omega arith) both in
+    let significand = same_significand (2 ^ t + f) (2 ^ t + g) d e exponent both in
+    spelled format x y (p.sign ∙ sym q.sign) exponent (omega (arith, significand))
 
 -- a pattern has one size
-pub same_size64 : (a b m n s x : ℕ) → IsNormal64 a m s x → IsNormal64 b n s x → m ≡ n
-same_size64 a b m n s x p q = eq_of_mul-eq-mul_right (2 ^ 1075) (pow_pos 1075) m n (sym p.value ∙ q.value)
-
-pub same_size32 : (a b m n x : ℕ) → IsNormal32 a m x → IsNormal32 b n x → m ≡ n
-same_size32 a b m n x p q = eq_of_mul-eq-mul_right (2 ^ 150) (pow_pos 150) m n (sym p.value ∙ q.value)
-
--- the two laws
-pub one_pattern64 : (n : ℤ) (s x y : ℕ) → IsBits64 n s x → IsBits64 n s y → x ≡ y
-one_pattern64 (pos zero) s x y p q = p ∙ sym q
-one_pattern64 (pos (suc n)) s x y p q = same_pattern64 0 (suc n) s x y p q
-one_pattern64 (negsuc n) s x y p q = same_pattern64 1 (suc n) s x y p q
-
-pub one_pattern32 : (n : ℤ) (x y : ℕ) → IsBits32 n x → IsBits32 n y → x ≡ y
-one_pattern32 (pos zero) x y p q = p ∙ sym q
-one_pattern32 (pos (suc n)) x y p q = same_pattern32 0 (suc n) x y p q
-one_pattern32 (negsuc n) x y p q = same_pattern32 1 (suc n) x y p q
+same_size : (format : Format) (a b m n s x : ℕ) → IsNormal format a m s x → IsNormal format b n s x → m ≡ n
+same_size format a b m n s x p q =
+    eq_of_mul-eq-mul_right (2 ^ scale_of format) (pow_pos (scale_of format)) m n (sym p.value ∙ q.value)
 
 -- 0 is no normal number
-not_zero64 : (b n s x : ℕ) → IsNormal64 b n s x → x ≡ 0 → ⊥
-not_zero64 b n s x p e = omega (arith, p.exponent.0, e)
+not_zero : (format : Format) (b n s x : ℕ) → IsNormal format b n s x → x ≡ 0 → ⊥
+not_zero format b n s x p e =
+    let empty : exponent_of format x ≡ 0 =
+    ap (λ i. exponent_of format i) e
+    ∙ ap (λ i. i % 2 ^ format.exponent_width) (zero-div (2 ^ format.fraction_width))
+    ∙ zero-mod (2 ^ format.exponent_width) in
+    omega (arith, p.exponent.0, empty)
 
-not_zero32 : (b n x : ℕ) → IsNormal32 b n x → x ≡ 0 → ⊥
-not_zero32 b n x p e = omega (arith, p.exponent.0, e)
+-- a pattern has one sign
+not_both : (format : Format) (m n s x : ℕ) → IsNormal format 0 m s x → IsNormal format 1 n s x → ⊥
+not_both format m n s x p q = omega (arith, sym p.sign ∙ q.sign)
 
-pub one_number64 : (m n : ℤ) (s x : ℕ) → IsBits64 m s x → IsBits64 n s x → m ≡ n
-one_number64 (pos zero) (pos zero) s x p q = refl
-one_number64 (pos zero) (pos (suc n)) s x p q = absurd (not_zero64 0 (suc n) s x q p)
-one_number64 (pos zero) (negsuc n) s x p q = absurd (not_zero64 1 (suc n) s x q p)
-one_number64 (pos (suc m)) (pos zero) s x p q = absurd (not_zero64 0 (suc m) s x p q)
-one_number64 (pos (suc m)) (pos (suc n)) s x p q = ap pos (same_size64 0 0 (suc m) (suc n) s x p q)
-one_number64 (pos (suc m)) (negsuc n) s x p q = absurd (omega (arith, p.sign, q.sign))
-one_number64 (negsuc m) (pos zero) s x p q = absurd (not_zero64 1 (suc m) s x p q)
-one_number64 (negsuc m) (pos (suc n)) s x p q = absurd (omega (arith, p.sign, q.sign))
-one_number64 (negsuc m) (negsuc n) s x p q =
-    let same : m ≡ n = omega (arith, same_size64 1 1 (suc m) (suc n) s x p q) in
+-- at most one pattern stands for a number
+pub one_pattern : (format : Format) (n : ℤ) (s x y : ℕ) → IsPattern format n s x → IsPattern format n s y → x ≡ y
+one_pattern format (pos zero) s x y p q = p ∙ sym q
+one_pattern format (pos (suc n)) s x y p q = same_pattern format 0 (suc n) s x y p q
+one_pattern format (negsuc n) s x y p q = same_pattern format 1 (suc n) s x y p q
+
+-- a pattern stands for at most one number
+pub one_number : (format : Format) (m n : ℤ) (s x : ℕ) → IsPattern format m s x → IsPattern format n s x → m ≡ n
+one_number format (pos zero) (pos zero) s x p q = refl
+one_number format (pos zero) (pos (suc n)) s x p q = absurd (not_zero format 0 (suc n) s x q p)
+one_number format (pos zero) (negsuc n) s x p q = absurd (not_zero format 1 (suc n) s x q p)
+one_number format (pos (suc m)) (pos zero) s x p q = absurd (not_zero format 0 (suc m) s x p q)
+one_number format (pos (suc m)) (pos (suc n)) s x p q = ap pos (same_size format 0 0 (suc m) (suc n) s x p q)
+one_number format (pos (suc m)) (negsuc n) s x p q = absurd (not_both format (suc m) (suc n) s x p q)
+one_number format (negsuc m) (pos zero) s x p q = absurd (not_zero format 1 (suc m) s x p q)
+one_number format (negsuc m) (pos (suc n)) s x p q = absurd (not_both format (suc n) (suc m) s x q p)
+one_number format (negsuc m) (negsuc n) s x p q =
+    let same : m ≡ n = omega (arith, same_size format 1 1 (suc m) (suc n) s x p q) in
     ap negsuc same
 
-pub one_number32 : (m n : ℤ) (x : ℕ) → IsBits32 m x → IsBits32 n x → m ≡ n
-one_number32 (pos zero) (pos zero) x p q = refl
-one_number32 (pos zero) (pos (suc n)) x p q = absurd (not_zero32 0 (suc n) x q p)
-one_number32 (pos zero) (negsuc n) x p q = absurd (not_zero32 1 (suc n) x q p)
-one_number32 (pos (suc m)) (pos zero) x p q = absurd (not_zero32 0 (suc m) x p q)
-one_number32 (pos (suc m)) (pos (suc n)) x p q = ap pos (same_size32 0 0 (suc m) (suc n) x p q)
-one_number32 (pos (suc m)) (negsuc n) x p q = absurd (omega (arith, p.sign, q.sign))
-one_number32 (negsuc m) (pos zero) x p q = absurd (not_zero32 1 (suc m) x p q)
-one_number32 (negsuc m) (pos (suc n)) x p q = absurd (omega (arith, p.sign, q.sign))
-one_number32 (negsuc m) (negsuc n) x p q =
-    let same : m ≡ n = omega (arith, same_size32 1 1 (suc m) (suc n) x p q) in
-    ap negsuc same
+-- the size of the fields of a pattern, with its shift in the exponent e, both ways
+shifted : (format : Format) (a e s x : ℕ) → e ≡ exponent_of format x + s →
+    a * 2 ^ exponent_of format x * 2 ^ s ≡ a * 2 ^ e
+shifted format a e s x sum =
+    mul_assoc a (2 ^ exponent_of format x) (2 ^ s)
+    ∙ ap (λ i. a * i) (sym (pow-add 2 (exponent_of format x) s)) ∙ ap (λ i. a * 2 ^ i) (sym sum)
 
--- the fields of a pattern, of which a whole number is read
-pub read64 : (n s x : ℕ) → x < 2 ^ 64 → exponent64 x + s ≤ 1075 → 1075 ≤ exponent64 x + s + 52 → s ≤ 63 →
-    (2 ^ 52 + fraction64 x) * 2 ^ (exponent64 x + s) ≡ n * 2 ^ 1075 → IsNormal64 (sign64 x) n s x
-read64 n s x fits low high h same = record {
-  sign = refl;
-  exponent = omega arith;
-  value = mul_assoc (2 ^ 52 + fraction64 x) (2 ^ exponent64 x) (2 ^ s)
-      ∙ ap (λ p. (2 ^ 52 + fraction64 x) * p) (sym (pow-add 2 (exponent64 x) s)) ∙ same;
-}
+pub value_of : (format : Format) (b n e s x : ℕ) → e ≡ exponent_of format x + s → IsNormal format b n s x →
+    (2 ^ format.fraction_width + fraction_of format x) * 2 ^ e ≡ n * 2 ^ scale_of format
+value_of format b n e s x sum p =
+    sym (shifted format (2 ^ format.fraction_width + fraction_of format x) e s x sum) ∙ p.value
 
-pub value64 : (b n s x : ℕ) → IsNormal64 b n s x →
-    (2 ^ 52 + fraction64 x) * 2 ^ (exponent64 x + s) ≡ n * 2 ^ 1075
-value64 b n s x p =
-    ap (λ p. (2 ^ 52 + fraction64 x) * p) (pow-add 2 (exponent64 x) s)
-    ∙ sym (mul_assoc (2 ^ 52 + fraction64 x) (2 ^ exponent64 x) (2 ^ s)) ∙ p.value
-
--- of a whole number that the fields give, if there is one, the pattern is the number's
-pub read_whole64 : (o : Option ℕ) (s x : ℕ) → x < 2 ^ 64 → s ≤ 63 →
-    let significand = 2 ^ 52 + fraction64 x in
-    IfSome o (λ n. (0 < n) × (n ≤ significand) × (significand * 2 ^ (exponent64 x + s) ≡ n * 2 ^ 1075)) →
-    OnSome o ((exponent64 x + s ≤ 1075) × (1075 ≤ exponent64 x + s + 52)) →
-    IfSome o (λ n. (0 < n) × (n < 2 ^ 53) × IsNormal64 (sign64 x) n s x)
-read_whole64 None s x fits h p q = tt
-read_whole64 (Some n) s x fits h p q = (p.0, omega (arith, p.1), read64 n s x fits q.0 q.1 h p.2)
+-- of a whole number that the fields give, if there is one, the pattern is the number's; far is how many places a
+-- significand is moved down at most
+pub read_whole : (format : Format) (far : ℕ) (o : Option ℕ) (e s x : ℕ) → e ≡ exponent_of format x + s →
+    far + s < scale_of format → scale_of format + 2 ≤ 2 ^ format.exponent_width →
+    let significand = 2 ^ format.fraction_width + fraction_of format x in
+    IfSome o (λ n. (0 < n) × (n ≤ significand) × (significand * 2 ^ e ≡ n * 2 ^ scale_of format)) →
+    OnSome o ((e ≤ scale_of format) × (scale_of format ≤ e + far)) →
+    IfSome o (λ n. (0 < n) × (n < 2 ^ suc format.fraction_width) × IsNormal format (sign_of format x) n s x)
+read_whole format far None e s x sum low high p q = tt
+read_whole format far (Some n) e s x sum low high p q =
+    let t = format.fraction_width in
+    let few : fraction_of format x < 2 ^ t = mod_below x (2 ^ t) (pow_pos t) in
+    let normal : IsNormal format (sign_of format x) n s x = record {
+      sign = refl;
+      exponent = omega (arith, sum, q.0, q.1);
+      value = shifted format (2 ^ t + fraction_of format x) e s x sum ∙ p.2;
+    } in
+    (p.0, omega (arith, p.1, few, twice t), normal)
 
 -- where no size fits the fields of a pattern, no number has it
-own_sign64 : (b n s x : ℕ) → IsNormal64 b n s x → IsNormal64 (sign64 x) n s x
-own_sign64 b n s x p = record { sign = refl; exponent = p.exponent; value = p.value }
+own_sign : (format : Format) (b n s x : ℕ) → IsNormal format b n s x → IsNormal format (sign_of format x) n s x
+own_sign format b n s x p = record { sign = refl; exponent = p.exponent; value = p.value }
 
-own_sign32 : (b n x : ℕ) → IsNormal32 b n x → IsNormal32 (sign32 x) n x
-own_sign32 b n x p = record { sign = refl; exponent = p.exponent; value = p.value }
-
-pub absent64 : (s x : ℕ) → (x ≡ 0 → ⊥) →
-    ((n : ℕ) → n < 2 ^ 53 → IsNormal64 (sign64 x) n s x → ◌≡◌ {A = Option ℕ} None (Some n)) →
-    (n : ℤ) → unsigned_abs n < 2 ^ 53 → IsBits64 n s x → ⊥
-absent64 s x some none (pos zero) h p = some p
-absent64 s x some none (pos (suc n)) h p = none-some (suc n) (none (suc n) h (own_sign64 0 (suc n) s x p))
-absent64 s x some none (negsuc n) h p = none-some (suc n) (none (suc n) h (own_sign64 1 (suc n) s x p))
-
-pub absent32 : (x : ℕ) → (x ≡ 0 → ⊥) →
-    ((n : ℕ) → n < 2 ^ 24 → IsNormal32 (sign32 x) n x → ◌≡◌ {A = Option ℕ} None (Some n)) →
-    (n : ℤ) → unsigned_abs n < 2 ^ 24 → IsBits32 n x → ⊥
-absent32 x some none (pos zero) h p = some p
-absent32 x some none (pos (suc n)) h p = none-some (suc n) (none (suc n) h (own_sign32 0 (suc n) x p))
-absent32 x some none (negsuc n) h p = none-some (suc n) (none (suc n) h (own_sign32 1 (suc n) x p))
+pub absent : (format : Format) (limit s x : ℕ) → (x ≡ 0 → ⊥) →
+    ((n : ℕ) → n < limit → IsNormal format (sign_of format x) n s x → ◌≡◌ {A = Option ℕ} None (Some n)) →
+    (n : ℤ) → unsigned_abs n < limit → IsPattern format n s x → ⊥
+absent format limit s x some none (pos zero) h p = some p
+absent format limit s x some none (pos (suc n)) h p =
+    none-some (suc n) (none (suc n) h (own_sign format 0 (suc n) s x p))
+absent format limit s x some none (negsuc n) h p =
+    none-some (suc n) (none (suc n) h (own_sign format 1 (suc n) s x p))
 
 -- what holds anyway holds where there is no value
 pub on_none : {X : Type 0} (o : Option X) (P : Type 0) → P → IfNone o P
 on_none None P p = p
 on_none (Some x) P p = tt
+
+-- ---- both formats
+pub one_pattern64 : (n : ℤ) (s x y : ℕ) → IsBits64 n s x → IsBits64 n s y → x ≡ y
+one_pattern64 n s x y p q = one_pattern binary64 n s x y p q
+
+pub one_pattern32 : (n : ℤ) (x y : ℕ) → IsBits32 n x → IsBits32 n y → x ≡ y
+one_pattern32 n x y p q = one_pattern binary32 n 0 x y p q
+
+pub one_number64 : (m n : ℤ) (s x : ℕ) → IsBits64 m s x → IsBits64 n s x → m ≡ n
+one_number64 m n s x p q = one_number binary64 m n s x p q
+
+pub one_number32 : (m n : ℤ) (x : ℕ) → IsBits32 m x → IsBits32 n x → m ≡ n
+one_number32 m n x p q = one_number binary32 m n 0 x p q

@@ -1,4 +1,4 @@
+pub mod Format
 pub mod Binary32
 pub mod Binary64
 pub mod Laws
-pub mod Significand

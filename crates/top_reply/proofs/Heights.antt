@@ -26,10 +26,10 @@ normal_or_not : (sign size bits : ℕ) → YesOrNo (IsNormal32 sign size bits)
 normal_or_not sign size bits =
     by_parts (number_or_not (sign32 bits) sign) (within_or_not 1 (exponent32 bits)) (within_or_not
     (exponent32 bits) 254)
-    (number_or_not ((2 ^ 23 + fraction32 bits) * 2 ^ exponent32 bits) (size * 2 ^ 150))
+    (number_or_not ((2 ^ 23 + fraction32 bits) * 2 ^ exponent32 bits * 2 ^ 0) (size * 2 ^ 150))
   where
     by_parts : YesOrNo (sign32 bits ≡ sign) → YesOrNo (1 ≤ exponent32 bits) → YesOrNo (exponent32 bits ≤ 254)
-        → YesOrNo ((2 ^ 23 + fraction32 bits) * 2 ^ exponent32 bits ≡ size * 2 ^ 150)
+        → YesOrNo ((2 ^ 23 + fraction32 bits) * 2 ^ exponent32 bits * 2 ^ 0 ≡ size * 2 ^ 150)
         → YesOrNo (IsNormal32 sign size bits)
     by_parts (inl p) (inl q) (inl r) (inl v) = inl (record { sign = p; exponent = (q, r); value = v })
     by_parts (inr p) q r v = inr (λ is. p is.sign)
