@@ -1,11 +1,10 @@
 -- The names that are looked at are all that can show a difference.
-use Rattle.std.proofs.Common.{arith, ◌==◌, ◌≡◌, Bool, true, false, ◌||◌, is_some, List, [], ◌∷◌, ◌++◌, map, ℕ, Option, Some, None, refl, sym, ap, subst, ◌∙◌}
+use Rattle.std.proofs.Common.{◌==◌, ◌≡◌, Bool, true, false, ◌||◌, is_some, List, [], ◌∷◌, ◌++◌, map, ℕ, Option, Some, None, refl, sym, ap, subst, ◌∙◌}
 use Rattle.std.specs.Cmp.Lexicographic.{pointwise}
 use Rattle.std.specs.FinMap.{get, keys, contains_key-keys}
 use Rattle.std.specs.List.{list_any}
-use Rattle.std.specs.Ordering.{eq_by_cmp}
 use Rattle.std.proofs.lemmas.List.Folds.{list_any-append}
-use Rattle.terrain_base.specs.CellKey.{key_cmp}
+use Rattle.common_laws.proofs.Orders.{equal_itself}
 use Rattle.terrain_base.specs.Overwrite.{is_among}
 use Rattle.terrain_base.specs.Step.{Files}
 use Rattle.terrain_base.specs.declared.cell_key.CellKey.{CellKey}
@@ -15,18 +14,14 @@ use Rattle.manifest_lines.specs.declared.state.State.TheVariants.{Closed}
 use Rattle.database.specs.Commands.{tile_names, existing}
 use Rattle.database.specs.State.{State, ReadsAs}
 use Rattle.database.specs.Verdict.{difference_of, difference_at, unwanted_names}
-use Rattle.database.proofs.Among.{cell_test}
 use Rattle.database.proofs.Tests.{is_name, name_other}
-use Rattle.database.proofs.Verdicts.{AllNames, all_names}
+use Rattle.database.proofs.Verdicts.{AllNames, all_names, cell_among_map}
 
 -- ---- what is held as it is wanted shows no difference
 
-self_byte : (x : ℕ) → (x == x) ≡ true
-self_byte x = grind (arith)
-
 self_bytes : (xs : List ℕ) → pointwise ◌==◌ xs xs ≡ true
 self_bytes [] = refl
-self_bytes (x ∷ xs) = rw (self_byte x) (self_bytes xs)
+self_bytes (x ∷ xs) = rw (equal_itself x) (self_bytes xs)
 
 self_none : (held : Option (List ℕ)) → difference_of held held ≡ None
 self_none None = refl
@@ -45,10 +40,6 @@ not_cell : (name : Key) → ((k : CellKey) → name ≡ Cell k → ⊥) → (ks 
     → is_among name (map Cell ks) ≡ false
 not_cell name other [] = refl
 not_cell name other (k ∷ ks) = rw (name_other name (Cell k) (other k)) (not_cell name other ks)
-
-cell_among : (k : CellKey) (ks : List CellKey) → is_among (Cell k) (map Cell ks) ≡ list_any (eq_by_cmp key_cmp k) ks
-cell_among k [] = refl
-cell_among k (j ∷ ks) = rw (cell_test k j) (ap (λ b. eq_by_cmp key_cmp k j || b) (cell_among k ks))
 
 none_of : (u m l c t : Bool) → c ≡ false → ((u || (m || (l || false))) || t) ≡ false
     → (u || (m || (l || (c || t)))) ≡ false
@@ -77,7 +68,7 @@ other_name s files name cell out =
 cell_name : (s : State) (files : Files) (k : CellKey) (found : Option (List ℕ)) → get s.cells k ≡ found
     → ReadsAs files s Closed → is_among (Cell k) (looked_names s files) ≡ false → difference_at s files (Cell k) ≡ None
 cell_name s files k None at r out = other_name s files (Cell k)
-    (cell_among k (keys s.cells) ∙ sym (contains_key-keys s.cells k) ∙ ap is_some at) out
+    (cell_among_map k (keys s.cells) ∙ sym (contains_key-keys s.cells k) ∙ ap is_some at) out
 cell_name s files k (Some bytes) at r out = none_where (get files (Cell k)) (get s.cells k)
     (r.cells k bytes at ∙ sym at)
 

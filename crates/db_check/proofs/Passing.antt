@@ -1,15 +1,9 @@
 -- What an answer that is passed on says.
-use Rattle.std.proofs.Common.{◌≡◌, Result, Ok, Err, Option, subst}
-use Rattle.std.specs.Prelude.{IfOk}
+use Rattle.std.proofs.Common.{◌≡◌, Result, Option, subst}
 use Rattle.terrain_base.specs.Step.{Files}
 use Rattle.cell_mosaic.specs.Cells.{Shapes}
 use Rattle.db_files.specs.Trouble.{OnlyStopsOrTrouble}
 use Rattle.database.specs.declared.answer.EngineAnswer.{EngineAnswer}
-
-pub ok_on : {T E : Type 0} (result : Result T E) (P Q : T → Type 0) → ((value : T) → P value → Q value)
-    → IfOk result P → IfOk result Q
-ok_on (Ok value) P Q next is = next value is
-ok_on (Err e) P Q next is = tt
 
 -- trouble by equal keys over equal files
 pub trouble_as : {T : Type 0} (result : Result T EngineAnswer) {keys keys' : Shapes} {held held' : Option Files}

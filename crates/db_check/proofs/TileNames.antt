@@ -14,6 +14,7 @@ use Rattle.tile_deps.specs.Tiles as tiles
 use Rattle.database.specs.Commands.{tile_names, existing}
 use Rattle.database.specs.State.{State, file_of, where_it_is, tile_exists}
 use Rattle.db_check.specs.Tiles.{AllExist}
+use Rattle.db_files.proofs.TileSteps.{names_append}
 
 -- ---- files
 
@@ -39,10 +40,6 @@ two_names names a b {first} {second} p q = append_assoc names (first ∷ []) (se
     ∙ (λ i. names ++ p i ∷ q i ∷ [])
 
 -- ---- tiles of a list
-
-names_append : (ts us : List TileId) → tile_names (ts ++ us) ≡ tile_names ts ++ tile_names us
-names_append [] us = refl
-names_append (t ∷ ts) us = ap (λ ns. Terrain t ∷ Note t ∷ ns) (names_append ts us)
 
 -- one tile more
 pub names_more : (names : List Key) (given : List TileId) (t : TileId)

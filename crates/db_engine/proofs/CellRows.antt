@@ -1,9 +1,9 @@
 -- The rows of a state's cells behind an edit, and the refusal that they show.
-use Rattle.std.proofs.Common.{◌≡◌, ℕ, ◌≤◌, ◌<◌, Bool, true, false, not, is_some, nat_le, cond, List, length, Option, Some, None, refl, sym, ap, subst, ◌∙◌, arith}
+use Rattle.std.proofs.Common.{◌≡◌, ℕ, ◌≤◌, ◌<◌, Bool, true, false, not, nat_le, cond, List, length, Option, Some, None, refl, sym, ap, subst, ◌∙◌, arith}
 use Rattle.std.specs.Prelude.{if◌then◌else◌}
-use Rattle.std.specs.List.{filter, list_any}
+use Rattle.std.specs.List.{filter}
 use Rattle.std.specs.Ordering.{eq_by_cmp}
-use Rattle.std.specs.FinMap.{get, keys, entries, entries_sorted, insert, remove, entries-insert, get-entries, get-remove, contains_key-keys, find}
+use Rattle.std.specs.FinMap.{get, keys, entries, entries_sorted, insert, remove, entries-insert, get-entries, get-remove, find}
 use Rattle.std.specs.FinMap.Entries.{where_key, is_sorted-where_key, find-where_key, same_entries}
 use Rattle.std.proofs.lemmas.List.{length-map}
 use Rattle.std.proofs.lemmas.Bool.{le-leb}
@@ -15,21 +15,16 @@ use Rattle.dted_cell.specs.Cell.{extremes_in}
 use Rattle.cell_mosaic.specs.Cells.{Cells, IsSoundCell}
 use Rattle.cell_mosaic.specs.Summaries.{summary_of, summaries_of}
 use Rattle.database.specs.declared.answer.EngineAnswer.TheVariants.{CellPresent, CellAbsent, DatabaseFull}
-use Rattle.database.specs.Cells.{AreRows, row_keys, has_row}
+use Rattle.database.specs.Cells.{AreRows, has_row}
 use Rattle.database.specs.Commands.{Command, Add, Replace, Remove, Edit, PutCell, DropCell, after, has_key, refusal_of}
 use Rattle.database.specs.State.{State, IsState}
 use Rattle.database.proofs.Given.{keys_exact}
 use Rattle.database.proofs.StateKept.{put_is_state, drop_is_state}
 use Rattle.db_engine.specs.Rows.{HasRoom, with_row, without_row, rows_after, refusal_by_rows}
-use Rattle.db_engine.proofs.RowLists.{shorts, put_rows, leave_rows, keys_of_shorts, has_row-keys, sorted_keys, with_row_are_rows}
+use Rattle.db_engine.proofs.RowLists.{shorts, put_rows, leave_rows, sorted_keys, with_row_are_rows}
+use Rattle.db_files.proofs.RowKeys.{row_there, keys_of_rows}
 
 -- ---- what the cells' rows tell
-
-pub row_keys_are : (cells : Cells) → row_keys (summaries_of cells) ≡ keys cells
-row_keys_are cells = keys_of_shorts extremes_in (entries cells)
-
-pub has_row_is : (cells : Cells) (k : CellKey) → has_row (summaries_of cells) k ≡ is_some (get cells k)
-has_row_is cells k = has_row-keys (summaries_of cells) k ∙ ap (list_any (eq_by_cmp key_cmp k)) (row_keys_are cells) ∙ sym (contains_key-keys cells k)
 
 pub count_is : (cells : Cells) → length (summaries_of cells) ≡ length (keys cells)
 count_is cells = length-map (entries cells) _ ∙ sym (length-map (entries cells) _)
@@ -38,7 +33,7 @@ pub state_rows : (s : State) → IsState s → AreRows (summaries_of s.cells)
 state_rows s is =
     let few = is.few in
     record {
-      ascend = subst (Rattle.std.specs.List.Sorted.IsStrictlySortedBy key_cmp) (sym (row_keys_are s.cells)) (sorted_keys (entries s.cells) (entries_sorted s.cells));
+      ascend = subst (Rattle.std.specs.List.Sorted.IsStrictlySortedBy key_cmp) (sym (keys_of_rows s.cells)) (sorted_keys (entries s.cells) (entries_sorted s.cells));
       few = omega (arith, count_is s.cells, few);
     }
 
@@ -72,14 +67,14 @@ rows_are_after (DropCell k) s rows is = ap (λ list. without_row list k) is ∙ 
 
 pub refusal_is : (c : Command) (s : State) (rows : List Summary) → rows ≡ summaries_of s.cells → refusal_by_rows c rows ≡ refusal_of c s
 refusal_is (Add k bytes) s rows is =
-    let has : has_row rows k ≡ has_key s k = ap (λ list. has_row list k) is ∙ has_row_is s.cells k in
+    let has : has_row rows k ≡ has_key s k = ap (λ list. has_row list k) is ∙ row_there s.cells k in
     let count : length rows ≡ length (keys s.cells) = ap length is ∙ count_is s.cells in
     λ i. if has i then Some (CellPresent k.square k.level) else (if nat_le 4096 (count i) then Some DatabaseFull else None)
 refusal_is (Replace k bytes) s rows is =
-    let has : has_row rows k ≡ has_key s k = ap (λ list. has_row list k) is ∙ has_row_is s.cells k in
+    let has : has_row rows k ≡ has_key s k = ap (λ list. has_row list k) is ∙ row_there s.cells k in
     λ i. if has i then None else Some (CellAbsent k.square k.level)
 refusal_is (Remove k) s rows is =
-    let has : has_row rows k ≡ has_key s k = ap (λ list. has_row list k) is ∙ has_row_is s.cells k in
+    let has : has_row rows k ≡ has_key s k = ap (λ list. has_row list k) is ∙ row_there s.cells k in
     λ i. if has i then None else Some (CellAbsent k.square k.level)
 
 -- ---- an edit that is not refused leaves a state

@@ -2,6 +2,7 @@
 use Rattle.std.proofs.Common.{◌≡◌, ℕ, zero, suc, ◌≤◌, Bool, true, false, not, is_some, cond, List, length, take, Option, Some, None, refl, sym, ap, ◌∙◌, inl, inr, arith}
 use Rattle.std.specs.FinMap.{get, insert, remove, get-insert, get-remove, contains_key-keys}
 use Rattle.std.specs.Ordering.{eq_by_cmp}
+use Rattle.common_laws.proofs.Options.{some_beside_none}
 use Rattle.manifest_lines.specs.declared.state.State.TheVariants.{Closed, Put, Drop, Rebuild}
 use Rattle.terrain_base.specs.declared.cell_key.CellKey.{CellKey}
 use Rattle.terrain_base.specs.declared.name.Key.{Key}
@@ -17,7 +18,8 @@ use Rattle.database.proofs.Settled.{settling_reads, settling_leaves}
 use Rattle.database.proofs.Tests.{is_name, name_other, key_self}
 use Rattle.db_engine.specs.Edited.{ReadsAsOldOrNew}
 
-at_other : (files : Files) (name other : Key) (bytes : List ℕ) → is_name other name ≡ false → get (insert files name bytes) other ≡ get files other
+-- a file of another name is as it was
+pub at_other : (files : Files) (name other : Key) (bytes : List ℕ) → is_name other name ≡ false → get (insert files name bytes) other ≡ get files other
 at_other files name other bytes e = get-insert by_text_total files name bytes other ∙ rw e refl
 
 -- ---- the settled files read as the state, closed
@@ -94,10 +96,6 @@ put_reads s files k bytes state r =
       cells = λ j found at. put_cell s files k j bytes text found (eq_by_cmp key_cmp j k) r (sym (get-insert keys_total s.cells k bytes j) ∙ at);
     }
 
-left_cell : (b : Bool) (x : Option (List ℕ)) (found : List ℕ) → cond b None x ≡ Some found → x ≡ Some found
-left_cell true x found e = absurd (cc)
-left_cell false x found e = e
-
 pub drop_reads : (s : State) (files : Files) (k : CellKey) → IsState (after (DropCell k) s) → ReadsAs files s Closed
     → ReadsAs (insert files Manifest (marked_text (Drop k) (after (DropCell k) s))) (after (DropCell k) s) (Drop k)
 drop_reads s files k state r =
@@ -106,7 +104,7 @@ drop_reads s files k state r =
       manifest = get-insert by_text_total files Manifest text Manifest;
       fit = ap not (sym (contains_key-keys (remove s.cells k) k) ∙ ap is_some (just_dropped s k));
       state = state;
-      cells = λ j found at. at_other files Manifest (Cell j) text (name_other (Cell j) Manifest (λ e. cc)) ∙ r.cells j found (left_cell _ _ _ (sym (get-remove keys_total s.cells k j) ∙ at));
+      cells = λ j found at. at_other files Manifest (Cell j) text (name_other (Cell j) Manifest (λ e. cc)) ∙ r.cells j found (some_beside_none _ _ _ (sym (get-remove keys_total s.cells k j) ∙ at));
     }
 
 -- ---- a whole command

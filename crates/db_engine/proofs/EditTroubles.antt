@@ -1,12 +1,12 @@
 -- Trouble behind the mark of a command, told of the files as the command began.
-use Rattle.std.proofs.Common.{◌≡◌, Bool, true, false, ◌||◌, not, cond, List, [], ◌∷◌, Option, Some, None, Result, refl, sym, ap, subst, ◌∙◌, ◌⊎◌, inl, inr, ⊎_elim, ℕ}
+use Rattle.std.proofs.Common.{◌≡◌, Bool, true, false, ◌||◌, not, cond, List, [], ◌∷◌, Option, Some, None, Result, refl, sym, ap, subst, ◌∙◌, ◌⊎◌, ⊎_elim, ℕ}
 use Rattle.std.specs.Prelude.{IfSome}
 use Rattle.std.specs.FinMap.{get, insert, get-insert, get-remove}
 use Rattle.std.specs.FinSet.{contains}
 use Rattle.std.specs.List.{filter, list_any}
 use Rattle.std.specs.Ordering.{eq_by_cmp}
 use Rattle.std.proofs.lemmas.List.Folds.{list_any-append}
-use Rattle.std.proofs.lemmas.Bool.{false_from_ne_true}
+use Rattle.std.proofs.lemmas.Bool.{or_cases, or_left, or_right, false_from_ne_true}
 use Rattle.terrain_base.specs.declared.cell_key.CellKey.{CellKey}
 use Rattle.terrain_base.specs.declared.name.Key.TheVariants.{Manifest, Stage, Cell}
 use Rattle.terrain_base.specs.declared.store.Change.{Change}
@@ -15,12 +15,12 @@ use Rattle.terrain_base.specs.CellKey.{key_cmp}
 use Rattle.terrain_base.specs.Step.{Files, Write, Erase, changed, held_after}
 use Rattle.terrain_base.specs.Run.{AllDone, files_after}
 use Rattle.dted_cell.specs.declared.trouble.CellTrouble.{CellTrouble}
-use Rattle.dted_cell.specs.declared.trouble.CellTrouble.TheVariants as trouble
-use Rattle.dted_cell.specs.Trouble.{IsCellAt, ShowsAt}
+use Rattle.dted_cell.specs.Trouble.{ShowsAt}
 use Rattle.cell_mosaic.specs.Cells.{Shapes, IsSoundCell}
 use Rattle.cell_mosaic.specs.Summaries.{summary_of}
 use Rattle.cell_cache.specs.Cached.{shapes_of_rows}
 use Rattle.cell_cache.proofs.Rows.{known_rows}
+use Rattle.cell_cache.proofs.Leaving.{no_trouble}
 use Rattle.database.specs.Answer.{OnlyStops}
 use Rattle.database.specs.Cells.{row_key, has_row}
 use Rattle.database.specs.Commands.{Edit, PutCell, DropCell}
@@ -33,8 +33,8 @@ use Rattle.db_files.proofs.Troubles.{stops_only, result_by}
 use Rattle.db_engine.specs.Edited.{EditTrouble}
 use Rattle.db_engine.specs.Holding.{IsStopOrFull}
 use Rattle.db_engine.specs.Rows.{is_before, is_behind, with_row, without_row, rows_after}
-use Rattle.db_engine.proofs.EditsEnd.{left_at}
-use Rattle.db_engine.proofs.RowLists.{or_left, or_right, without_row_gone}
+use Rattle.db_engine.proofs.RowLists.{without_row_gone}
+use Rattle.db_engine.proofs.EditReads.{at_other}
 
 -- ---- a stop is no trouble
 
@@ -45,22 +45,10 @@ told_stop rows (Some files) result stops = stops_only (shapes_of_rows rows) (Som
 pub edit_stop : {T : Type 0} (edit : Edit) (rows : List Summary) (held : Option Files) (result : Result T EngineAnswer) → OnlyStops result → EditTrouble edit rows held result
 edit_stop edit rows held result stops = record { any = stops_only (shapes_of_rows (rows_after edit rows)) held result stops; told = told_stop rows held result stops }
 
--- ---- a cell that is held shows no trouble
-
-no_trouble : (key : CellKey) (bytes : List ℕ) (t : CellTrouble) → IsCellAt key bytes → ShowsAt key (Some bytes) t → ⊥
-no_trouble key bytes (trouble.Lost name) cell shown = cc
-no_trouble key bytes (trouble.Bad name refusal) cell shown = let accepted = cell.accepted in cc
-no_trouble key bytes (trouble.Elsewhere name found) cell shown = shown.2 (sym shown.1 ∙ cell.square)
-no_trouble key bytes (trouble.Changed name opened found) cell shown = shown.4 (sym shown.2 ∙ cell.level ∙ sym shown.3)
-
 -- ---- which rows there were
 
-either_of : (a b : Bool) → (a || b) ≡ true → (a ≡ true) ⊎ (b ≡ true)
-either_of true b e = inl refl
-either_of false b e = inr e
-
 any_step : (at : Summary → Bool) (x : Summary) (xs kept : List Summary) (b : Bool) → (list_any at kept ≡ true → list_any at xs ≡ true) → list_any at (cond b (x ∷ kept) kept) ≡ true → (at x || list_any at xs) ≡ true
-any_step at x xs kept true later h = ⊎_elim (λ here. or_left (at x) (list_any at xs) here) (λ more. or_right (at x) (list_any at xs) (later more)) (either_of (at x) (list_any at kept) h)
+any_step at x xs kept true later h = ⊎_elim (λ here. or_left (at x) (list_any at xs) here) (λ more. or_right (at x) (list_any at xs) (later more)) (or_cases (at x) (list_any at kept) h)
 any_step at x xs kept false later h = or_right (at x) (list_any at xs) (later h)
 
 any_kept : (at p : Summary → Bool) (rows : List Summary) → list_any at (filter p rows) ≡ true → list_any at rows ≡ true
@@ -73,8 +61,8 @@ had_row rows row key apart has =
     let before = filter (is_before (row_key row)) rows in
     let behind = filter (is_behind (row_key row)) rows in
     ⊎_elim (λ first. any_kept at (is_before (row_key row)) rows first)
-    (λ later. ⊎_elim (λ here. absurd (cc)) (λ last. any_kept at (is_behind (row_key row)) rows last) (either_of (at row) (list_any at behind) later))
-    (either_of (list_any at before) (list_any at (row ∷ behind)) (sym (list_any-append at before (row ∷ behind)) ∙ has))
+    (λ later. ⊎_elim (λ here. absurd (cc)) (λ last. any_kept at (is_behind (row_key row)) rows last) (or_cases (at row) (list_any at behind) later))
+    (or_cases (list_any at before) (list_any at (row ∷ behind)) (sym (list_any-append at before (row ∷ behind)) ∙ has))
 
 -- ---- over the files as the command began
 
@@ -85,8 +73,8 @@ told_before : (key : CellKey) (files now : Files) (keys keys' : Shapes) (t : Cel
     → IsShownTrouble keys' (Some now) t → IsShownTrouble keys (Some files) t
 told_before key files now keys keys' t had held never is =
     let other = is.subject.key in
-    let at_other = subst (λ bytes. ShowsAt other bytes t) (ap (get now) is.subject.name) (is.shown other is.subject.name) in
-    let apart : eq_by_cmp key_cmp other key ≡ false = false_from_ne_true _ (λ e. never is other is.subject.known at_other (key_same other key e)) in
+    let shown_at_other = subst (λ bytes. ShowsAt other bytes t) (ap (get now) is.subject.name) (is.shown other is.subject.name) in
+    let apart : eq_by_cmp key_cmp other key ≡ false = false_from_ne_true _ (λ e. never is other is.subject.known shown_at_other (key_same other key e)) in
     record {
       subject = record { key = other; known = had other apart is.subject.known; name = is.subject.name; opened = is.subject.opened };
       shown = λ k name. subst (λ bytes. ShowsAt k bytes t) (ap (get now) is.subject.name ∙ held other apart ∙ sym (ap (get files) is.subject.name)) (is.shown k name);
@@ -102,8 +90,8 @@ marked files bytes text = insert (insert files Stage bytes) Manifest text
 
 marked_left : (files : Files) (bytes text : List ℕ) (other : CellKey) → get (marked files bytes text) (Cell other) ≡ get files (Cell other)
 marked_left files bytes text other =
-    left_at (insert files Stage bytes) Manifest (Cell other) text (name_other (Cell other) Manifest (λ e. cc))
-    ∙ left_at files Stage (Cell other) bytes (name_other (Cell other) Stage (λ e. cc))
+    at_other (insert files Stage bytes) Manifest (Cell other) text (name_other (Cell other) Manifest (λ e. cc))
+    ∙ at_other files Stage (Cell other) bytes (name_other (Cell other) Stage (λ e. cc))
 
 put_told : (key : CellKey) (bytes text : List ℕ) (rows : List Summary) (files : Files) (t : CellTrouble) → IsSoundCell key bytes
     → IsShownTrouble (shapes_of_rows (with_row rows (summary_of key bytes))) (Some (insert (marked files bytes text) (Cell key) bytes)) t → IsShownTrouble (shapes_of_rows rows) (Some files) t
@@ -112,7 +100,7 @@ put_told key bytes text rows files t sound is =
     let now = insert (marked files bytes text) (Cell key) bytes in
     told_before key files now (shapes_of_rows rows) (shapes_of_rows (with_row rows row)) t
     (λ other apart known. known_rows rows other ∙ had_row rows row other apart (sym (known_rows (with_row rows row) other) ∙ known))
-    (λ other apart. left_at (marked files bytes text) (Cell key) (Cell other) bytes (other_cell other key apart) ∙ marked_left files bytes text other)
+    (λ other apart. at_other (marked files bytes text) (Cell key) (Cell other) bytes (other_cell other key apart) ∙ marked_left files bytes text other)
     (λ again other known shown same.
     let there : get now (Cell key) ≡ Some bytes = get-insert by_text_total (marked files bytes text) (Cell key) bytes (Cell key) ∙ rw (name_self (Cell key)) refl in
     no_trouble key bytes t sound.cell (subst (λ held. ShowsAt key held t) there (subst (λ k. ShowsAt k (get now (Cell k)) t) same shown)))
@@ -145,7 +133,7 @@ drop_told key text rows files t is =
     let list = without_row rows key in
     told_before key files (changed (Erase (Cell key)) (insert files Manifest text)) (shapes_of_rows rows) (shapes_of_rows list) t
     (λ other apart known. known_rows rows other ∙ any_kept (λ (row : Summary). eq_by_cmp key_cmp other (row_key row)) (λ (row : Summary). not (eq_by_cmp key_cmp (row_key row) key)) rows (sym (known_rows list other) ∙ known))
-    (λ other apart. get-remove by_text_total (insert files Manifest text) (Cell key) (Cell other) ∙ rw (other_cell other key apart) refl ∙ left_at files Manifest (Cell other) text (name_other (Cell other) Manifest (λ e. cc)))
+    (λ other apart. get-remove by_text_total (insert files Manifest text) (Cell key) (Cell other) ∙ rw (other_cell other key apart) refl ∙ at_other files Manifest (Cell other) text (name_other (Cell other) Manifest (λ e. cc)))
     (λ again other known shown same.
     let gone : has_row list other ≡ false = ap (has_row list) same ∙ without_row_gone rows key in
     let there : has_row list other ≡ true = sym (known_rows list other) ∙ known in

@@ -1,10 +1,9 @@
 -- From the mark of a command to what it leaves.
-use Rattle.std.proofs.Common.{◌≡◌, ℕ, ◌+◌, ◌≤◌, false, List, [], ◌∷◌, Option, Some, None, Result, Ok, Err, OnOk, OnErr, IfSome, refl, sym, ap, subst, ◌∙◌}
-use Rattle.std.specs.FinMap.{get, keys, insert, get-insert}
+use Rattle.std.proofs.Common.{◌≡◌, ℕ, ◌+◌, ◌≤◌, List, [], ◌∷◌, Option, Some, None, Result, Ok, Err, OnOk, OnErr, IfSome, refl, sym, ap, subst, ◌∙◌}
+use Rattle.std.specs.FinMap.{keys, insert, get-insert}
 use Rattle.std.specs.Ordering.{eq_by_cmp}
 use Rattle.manifest_lines.specs.declared.state.State.TheVariants.{Closed, Put, Drop}
 use Rattle.terrain_base.specs.declared.cell_key.CellKey.{CellKey}
-use Rattle.terrain_base.specs.declared.name.Key.{Key}
 use Rattle.terrain_base.specs.declared.name.Key.TheVariants.{Manifest, Stage, Cell}
 use Rattle.terrain_base.specs.declared.params.Params.{Params}
 use Rattle.terrain_base.specs.declared.store.Change.{Change}
@@ -25,21 +24,21 @@ use Rattle.database.specs.Cells.{row_keys}
 use Rattle.database.specs.Commands.{Command, Edit, PutCell, DropCell, after, calls, edit_of, key_of, opening, marked_text, OldOrNew}
 use Rattle.database.specs.State.{State, IsState, AreFiles, StandsMarked}
 use Rattle.database.proofs.Command.{command_stands, command_ends}
-use Rattle.database.proofs.Given.{by_text_total}
 use Rattle.database.proofs.Standing.{closed_stands}
-use Rattle.database.proofs.Tests.{is_name, name_other, key_self}
+use Rattle.database.proofs.Tests.{name_other, key_self}
 use Rattle.db_files.specs.Serving.{Closing, count_existing}
+use Rattle.db_files.proofs.RowKeys.{keys_of_rows}
 use Rattle.db_engine.specs.Edited.{EditRan, Edited, EditedBy, Ends, Turned, ReadsAsOldOrNew}
 use Rattle.db_engine.specs.Holding.{HoldsState, Stands}
 use Rattle.db_engine.specs.Opened.{Contents}
 use Rattle.db_engine.specs.Rows.{with_row, without_row, refusal_by_rows}
-use Rattle.db_engine.proofs.CellRows.{put_summaries, drop_summaries, row_keys_are, rows_are_after, refusal_is, state_after, IsSoundEdit, HasRoomFor}
-use Rattle.db_engine.proofs.EditReads.{edit_reads, edit_closed}
+use Rattle.db_engine.proofs.CellRows.{put_summaries, drop_summaries, rows_are_after, refusal_is, state_after, IsSoundEdit, HasRoomFor}
+use Rattle.db_engine.proofs.EditReads.{edit_reads, edit_closed, at_other}
 
 -- ---- the mark, in the words of the state
 
 mark_text : (m : ManifestState) (t : State) (params : Params) (rows : List Summary) → params ≡ t.params → rows ≡ summaries_of t.cells → manifest_text params m (row_keys rows) ≡ marked_text m t
-mark_text m t params rows p r = (λ i. manifest_text (p i) m (row_keys (r i))) ∙ ap (manifest_text t.params m) (row_keys_are t.cells)
+mark_text m t params rows p r = (λ i. manifest_text (p i) m (row_keys (r i))) ∙ ap (manifest_text t.params m) (keys_of_rows t.cells)
 
 pub put_opening : (s : State) (k : CellKey) (bytes : List ℕ) (params : Params) (rows : List Summary) → params ≡ s.params → rows ≡ summaries_of (after (PutCell k bytes) s).cells
     → Write Stage bytes ∷ Write Manifest (manifest_text params (Put k) (row_keys rows)) ∷ [] ≡ opening (PutCell k bytes) (after (PutCell k bytes) s)
@@ -55,9 +54,6 @@ drop_opening s k params rows p r =
 
 -- ---- once the mark stands, what is left can be done
 
-pub left_at : (files : Files) (name q : Key) (bytes : List ℕ) → is_name q name ≡ false → get (insert files name bytes) q ≡ get files q
-left_at files name q bytes e = get-insert by_text_total files name bytes q ∙ rw e refl
-
 pub put_closing : {held held' : Option Files} {log log' : Option (List Change)} {o : Contents} (s : State) (k : CellKey) (bytes text : List ℕ) (params : Params) (rows : List Summary) → HoldsState held o s → AreSound (after (PutCell k bytes) s).cells
     → params ≡ s.params → rows ≡ summaries_of (after (PutCell k bytes) s).cells
     → AllDone (Write Stage bytes ∷ Write Manifest text ∷ []) held log held' log' → Closing held' params rows k (Some bytes) (after (PutCell k bytes) s)
@@ -70,8 +66,8 @@ put_closing s k bytes text params rows h sound p r done =
       sound = sound;
       cell_is = get-insert keys_total s.cells k bytes k ∙ rw (key_self k) refl;
       others = λ j found apart at.
-          left_at (insert h.files Stage bytes) Manifest (Cell j) text (name_other (Cell j) Manifest (λ e. cc))
-          ∙ left_at h.files Stage (Cell j) bytes (name_other (Cell j) Stage (λ e. cc))
+          at_other (insert h.files Stage bytes) Manifest (Cell j) text (name_other (Cell j) Manifest (λ e. cc))
+          ∙ at_other h.files Stage (Cell j) bytes (name_other (Cell j) Stage (λ e. cc))
           ∙ h.reads.cells j found (sym (get-insert keys_total s.cells k bytes j ∙ rw apart refl) ∙ at);
     }
 
@@ -87,7 +83,7 @@ drop_closing s k text params rows h sound p r done =
       sound = sound;
       cell_is = Rattle.std.specs.FinMap.get-remove keys_total s.cells k k ∙ rw (key_self k) refl;
       others = λ j found apart at.
-          left_at h.files Manifest (Cell j) text (name_other (Cell j) Manifest (λ e. cc))
+          at_other h.files Manifest (Cell j) text (name_other (Cell j) Manifest (λ e. cc))
           ∙ h.reads.cells j found (sym (Rattle.std.specs.FinMap.get-remove keys_total s.cells k j ∙ rw apart refl) ∙ at);
     }
 

@@ -1,5 +1,5 @@
 -- Rows as entries in the order of their keys: what it is to put a row among them, or to leave one out.
-use Rattle.std.proofs.Common.{◌≡◌, ℕ, suc, ◌+◌, ◌≤◌, ◌<◌, Bool, true, false, ◌&&◌, ◌||◌, not, is_some, cond, List, [], ◌∷◌, ◌++◌, length, map, Option, refl, sym, ap, subst, ◌∙◌, arith, T, ◌⊎◌, inl, inr}
+use Rattle.std.proofs.Common.{◌≡◌, ℕ, suc, ◌+◌, ◌≤◌, ◌<◌, Bool, true, false, ◌||◌, not, is_some, cond, List, [], ◌∷◌, ◌++◌, length, map, Option, refl, sym, ap, subst, ◌∙◌, arith, T, ◌⊎◌, inl, inr}
 use Rattle.std.specs.List.{AllByRecursion, filter, list_any}
 use Rattle.std.specs.List.Sorted.{IsStrictlySortedBy}
 use Rattle.std.specs.Ordering.{eq_by_cmp, is_lt, ordering_reverse}
@@ -10,6 +10,9 @@ use Rattle.std.specs.FinMap.Entries.{below_all, by_order, where_key, is_sorted-p
 use Rattle.std.proofs.lemmas.List.{length-map}
 use Rattle.std.proofs.lemmas.List.Folds.{list_any-append}
 use Rattle.std.proofs.lemmas.List.Kept.{IsStrictlySortedBy-filter}
+use Rattle.std.proofs.lemmas.Bool.{or_left, or_right}
+use Rattle.common_laws.proofs.Booleans.{both_hold, left_holds, right_holds}
+use Rattle.common_laws.proofs.Orders.{less_from_holds, holds_from_less}
 use Rattle.terrain_base.specs.declared.cell_key.CellKey.{CellKey}
 use Rattle.terrain_base.specs.declared.post.Extremes.{Extremes}
 use Rattle.terrain_base.specs.declared.summary.Summary.{Summary}
@@ -18,6 +21,7 @@ use Rattle.database.specs.Cells.{AreRows, row_key, row_keys, has_row}
 use Rattle.database.proofs.Given.{keys_exact}
 use Rattle.database.proofs.Tests.{key_self, key_other}
 use Rattle.db_engine.specs.Rows.{HasRoom, is_before, is_behind, with_row, without_row}
+use Rattle.db_files.proofs.RowKeys.{any_key}
 
 -- an entry in short, where something tells its extremes
 abbrev pub short : {X : Type 0} → (X → Option Extremes) → CellKey × X → Summary
@@ -28,26 +32,6 @@ shorts told entries = map (short told) entries
 
 -- ---- orders and tests
 
-less_of : (o : Ordering) → T (is_lt o) → o ≡ Less
-less_of Less h = refl
-less_of Equal h = absurd h
-less_of Greater h = absurd h
-
-less_test : (o : Ordering) → o ≡ Less → T (is_lt o)
-less_test o e = subst (λ o. T (is_lt o)) (sym e) tt
-
-and_both : (a b : Bool) → T a → T b → T (a && b)
-and_both true b h k = k
-and_both false b h k = absurd h
-
-and_left : (a b : Bool) → T (a && b) → T a
-and_left true b h = tt
-and_left false b h = absurd h
-
-and_right : (a b : Bool) → T (a && b) → T b
-and_right true b h = h
-and_right false b h = absurd h
-
 turned : (a b : CellKey) (o : Ordering) → key_cmp a b ≡ o → key_cmp b a ≡ ordering_reverse o
 turned a b o e = keys_total.antisymm b a ∙ ap ordering_reverse e
 
@@ -55,7 +39,7 @@ turned a b o e = keys_total.antisymm b a ∙ ap ordering_reverse e
 below_all_of : {X : Type 0} (k j : CellKey) (es : List (CellKey × X)) → key_cmp k j ≡ Less → T (below_all key_cmp j es) → T (below_all key_cmp k es)
 below_all_of k j [] less h = tt
 below_all_of k j (e ∷ es) less h =
-    and_both _ _ (less_test (key_cmp k e.0) (keys_total.trans k j e.0 less (less_of _ (and_left _ _ h)))) (below_all_of k j es less (and_right _ _ h))
+    both_hold _ _ (holds_from_less (key_cmp k e.0) (keys_total.trans k j e.0 less (less_from_holds _ (left_holds _ _ h)))) (below_all_of k j es less (right_holds _ _ h))
 
 -- ---- a row among entries
 
@@ -63,13 +47,13 @@ none_before : {X : Type 0} (told : X → Option Extremes) (k : CellKey) (es : Li
 none_before told k [] h = refl
 none_before told k (e ∷ es) h =
     let rest = filter (is_before k) (shorts told es) in
-    ap (λ o. cond (is_lt o) (short told e ∷ rest) rest) (turned k e.0 Less (less_of _ (and_left _ _ h))) ∙ none_before told k es (and_right _ _ h)
+    ap (λ o. cond (is_lt o) (short told e ∷ rest) rest) (turned k e.0 Less (less_from_holds _ (left_holds _ _ h))) ∙ none_before told k es (right_holds _ _ h)
 
 all_behind : {X : Type 0} (told : X → Option Extremes) (k : CellKey) (es : List (CellKey × X)) → T (below_all key_cmp k es) → filter (is_behind k) (shorts told es) ≡ shorts told es
 all_behind told k [] h = refl
 all_behind told k (e ∷ es) h =
     let rest = filter (is_behind k) (shorts told es) in
-    ap (λ o. cond (is_lt o) (short told e ∷ rest) rest) (less_of _ (and_left _ _ h)) ∙ ap (λ rows. short told e ∷ rows) (all_behind told k es (and_right _ _ h))
+    ap (λ o. cond (is_lt o) (short told e ∷ rest) rest) (less_from_holds _ (left_holds _ _ h)) ∙ ap (λ rows. short told e ∷ rows) (all_behind told k es (right_holds _ _ h))
 
 put_step : {X : Type 0} (told : X → Option Extremes) (k : CellKey) (v : X) (e : CellKey × X) (es : List (CellKey × X)) (o : Ordering) → key_cmp k e.0 ≡ o → T (below_all key_cmp e.0 es)
     → shorts told (put key_cmp k v es) ≡ filter (is_before k) (shorts told es) ++ short told (k, v) ∷ filter (is_behind k) (shorts told es)
@@ -99,7 +83,7 @@ put_step told k v e es Greater is below ih =
 -- to put an entry is to put its row between those before it and those behind it
 pub put_rows : {X : Type 0} (told : X → Option Extremes) (k : CellKey) (v : X) (es : List (CellKey × X)) → T (is_sorted key_cmp es) → shorts told (put key_cmp k v es) ≡ with_row (shorts told es) (short told (k, v))
 put_rows told k v [] h = refl
-put_rows told k v (e ∷ es) h = put_step told k v e es (key_cmp k e.0) refl (and_left _ _ h) (put_rows told k v es (and_right _ _ h))
+put_rows told k v (e ∷ es) h = put_step told k v e es (key_cmp k e.0) refl (left_holds _ _ h) (put_rows told k v es (right_holds _ _ h))
 
 leave_step : {X : Type 0} (told : X → Option Extremes) (p : CellKey → Bool) (e : CellKey × X) (es : List (CellKey × X)) (b : Bool) → shorts told (where_key key_cmp p es) ≡ filter (λ row. p (row_key row)) (shorts told es)
     → shorts told (cond b (e ∷ where_key key_cmp p es) (where_key key_cmp p es)) ≡ cond b (short told e ∷ filter (λ row. p (row_key row)) (shorts told es)) (filter (λ row. p (row_key row)) (shorts told es))
@@ -117,18 +101,14 @@ pub keys_of_shorts : {X : Type 0} (told : X → Option Extremes) (es : List (Cel
 keys_of_shorts told [] = refl
 keys_of_shorts told (e ∷ es) = ap (λ keys. e.0 ∷ keys) (keys_of_shorts told es)
 
-pub has_row-keys : (rows : List Summary) (k : CellKey) → has_row rows k ≡ list_any (eq_by_cmp key_cmp k) (row_keys rows)
-has_row-keys [] k = refl
-has_row-keys (row ∷ rows) k = ap (λ b. eq_by_cmp key_cmp k (row_key row) || b) (has_row-keys rows k)
-
 below_keys : {X : Type 0} (k : CellKey) (es : List (CellKey × X)) → T (below_all key_cmp k es) → AllByRecursion (λ j. key_cmp k j ≡ Less) (map (λ e. e.0) es)
 below_keys k [] h = tt
-below_keys k (e ∷ es) h = (less_of (key_cmp k e.0) (and_left _ _ h), below_keys k es (and_right _ _ h))
+below_keys k (e ∷ es) h = (less_from_holds (key_cmp k e.0) (left_holds _ _ h), below_keys k es (right_holds _ _ h))
 
 pub sorted_keys : {X : Type 0} (es : List (CellKey × X)) → T (is_sorted key_cmp es) → IsStrictlySortedBy key_cmp (map (λ e. e.0) es)
 unfolding IsStrictlySortedBy
 sorted_keys [] h = tt
-sorted_keys (e ∷ es) h = (below_keys e.0 es (and_left _ _ h), sorted_keys es (and_right _ _ h))
+sorted_keys (e ∷ es) h = (below_keys e.0 es (left_holds _ _ h), sorted_keys es (right_holds _ _ h))
 
 -- ---- rows as entries
 
@@ -141,12 +121,12 @@ rows_back (row ∷ rows) = ap (λ list. row ∷ list) (rows_back rows)
 
 below_entries : (k : CellKey) (rows : List Summary) → AllByRecursion (λ j. key_cmp k j ≡ Less) (row_keys rows) → T (below_all key_cmp k (entries_of rows))
 below_entries k [] h = tt
-below_entries k (row ∷ rows) h = and_both _ _ (less_test (key_cmp k (row_key row)) h.0) (below_entries k rows h.1)
+below_entries k (row ∷ rows) h = both_hold _ _ (holds_from_less (key_cmp k (row_key row)) h.0) (below_entries k rows h.1)
 
 sorted_entries : (rows : List Summary) → IsStrictlySortedBy key_cmp (row_keys rows) → T (is_sorted key_cmp (entries_of rows))
 unfolding IsStrictlySortedBy
 sorted_entries [] h = tt
-sorted_entries (row ∷ rows) h = and_both _ _ (below_entries (row_key row) rows h.0) (sorted_entries rows h.1)
+sorted_entries (row ∷ rows) h = both_hold _ _ (below_entries (row_key row) rows h.0) (sorted_entries rows h.1)
 
 entry_keys : (rows : List Summary) → map (λ (e : CellKey × Option Extremes). e.0) (entries_of rows) ≡ row_keys rows
 entry_keys [] = refl
@@ -168,7 +148,7 @@ with_row_are_rows rows row are room =
     let k = row_key row in
     let sorted = sorted_entries rows are.ascend in
     let now = put key_cmp k row.extremes es in
-    let there : is_some (find key_cmp k es) ≡ has_row rows k = is_some-find key_cmp k es ∙ ap (list_any (eq_by_cmp key_cmp k)) (entry_keys rows) ∙ sym (has_row-keys rows k) in
+    let there : is_some (find key_cmp k es) ≡ has_row rows k = is_some-find key_cmp k es ∙ ap (list_any (eq_by_cmp key_cmp k)) (entry_keys rows) ∙ sym (any_key rows k) in
     let count : length now ≡ cond (has_row rows k) (length es) (length es + 1) = length-put key_cmp keys_total k row.extremes es sorted ∙ ap (λ b. cond b (length es) (length es + 1)) there in
     let long : length es ≡ length rows = length-map rows _ in
     let as_shorts : length (shorts (λ told. told) now) ≡ length now = length-map now _ in
@@ -177,14 +157,6 @@ with_row_are_rows rows row are room =
       ascend = subst (IsStrictlySortedBy key_cmp) (sym (keys_of_shorts (λ told. told) now)) (sorted_keys now (is_sorted-put key_cmp keys_total k row.extremes es sorted));
       few = subst (λ n. n ≤ 4096) (sym (as_shorts ∙ count ∙ ap (λ n. cond (has_row rows k) n (n + 1)) long)) fits;
     })
-
-pub or_left : (a b : Bool) → a ≡ true → (a || b) ≡ true
-or_left true b e = refl
-or_left false b e = absurd (cc)
-
-pub or_right : (a b : Bool) → b ≡ true → (a || b) ≡ true
-or_right true b e = refl
-or_right false b e = e
 
 pub with_row_has : (rows : List Summary) (row : Summary) → has_row (with_row rows row) (row_key row) ≡ true
 with_row_has rows row =

@@ -1,7 +1,8 @@
 -- What a rebuilding and a beginning leave.
-use Rattle.std.proofs.Common.{◌≡◌, ℕ, ◌≤◌, List, [], ◌∷◌, length, get_or, Option, Some, None, Result, Ok, Err, OnOk, IfSome, refl, sym, ap, subst, ◌∙◌, ◌⊎◌, inl, inr, ⊎_elim}
+use Rattle.std.proofs.Common.{◌≡◌, ℕ, ◌≤◌, List, [], length, get_or, Option, Some, None, Result, Ok, Err, OnOk, IfSome, refl, sym, ap, subst, ◌∙◌, ◌⊎◌, inl, inr, ⊎_elim}
 use Rattle.std.specs.Prelude.{slice_get, IsErrAnd}
 use Rattle.std.specs.FinMap.{get, keys, empty, get-empty, entries, len, len-empty, len-entries}
+use Rattle.std.proofs.lemmas.List.{nil_from_length}
 use Rattle.terrain_base.specs.declared.cell_key.CellKey.{CellKey}
 use Rattle.manifest_lines.specs.declared.state.State.TheVariants.{Closed}
 use Rattle.terrain_base.specs.declared.params.Params.{Params}
@@ -80,12 +81,8 @@ rebuilds_stop {held' = held'} {s = s} {log = log} {log' = log'} (Err e) Q is h d
 
 -- ---- no cells
 
-no_length : {A : Type 0} (xs : List A) → length xs ≡ 0 → xs ≡ []
-no_length [] e = refl
-no_length (x ∷ xs) e = absurd (cc)
-
 none_entries : entries (empty {X = List ℕ} {R = key_cmp}) ≡ []
-none_entries = no_length _ (sym (len-entries (empty {X = List ℕ} {R = key_cmp})) ∙ len-empty key_cmp (List ℕ))
+none_entries = nil_from_length _ (sym (len-entries (empty {X = List ℕ} {R = key_cmp})) ∙ len-empty key_cmp (List ℕ))
 
 pub no_rows : (params : Params) → summaries_of (no_cells params).cells ≡ []
 no_rows params = ap (Rattle.std.specs.Prelude.map (λ (e : CellKey × List ℕ). summary_of e.0 e.1)) none_entries

@@ -1,10 +1,11 @@
 -- Cells that are put under the names of the present version, one after another.
-use Rattle.std.proofs.Common.{◌≡◌, ℕ, zero, suc, ◌+◌, ◌<◌, Bool, true, false, ◌||◌, ◌++◌, List, [], ◌∷◌, length, map, take, drop, cond, get_or, is_some, Option, Some, None, refl, sym, ap, subst, ◌∙◌, ◌⊎◌, ⊎_elim, add-one, drop-cons, arith}
+use Rattle.std.proofs.Common.{◌≡◌, ℕ, zero, suc, ◌+◌, ◌<◌, true, false, ◌||◌, ◌++◌, List, [], ◌∷◌, length, map, take, drop, cond, get_or, is_some, Option, Some, None, refl, sym, ap, subst, ◌∙◌, ◌⊎◌, ⊎_elim, add-one, drop-cons, arith}
 use Rattle.std.specs.FinMap.{get, keys, contains_key-keys}
 use Rattle.std.specs.List.{filter, list_any}
 use Rattle.std.specs.Ordering.{eq_by_cmp}
 use Rattle.std.proofs.lemmas.List.{take_more, take-append-drop, take-map, map-append}
 use Rattle.std.proofs.lemmas.List.Elements.{filter-append}
+use Rattle.std.proofs.lemmas.Bool.{or_right}
 use Rattle.terrain_base.specs.declared.cell_key.CellKey.{CellKey}
 use Rattle.terrain_base.specs.declared.name.Key.{Key}
 use Rattle.terrain_base.specs.declared.name.Key.TheVariants.{Manifest, Cell}
@@ -122,11 +123,7 @@ steps_read {v = v} {s = s} k = λ i. moved_steps s v (k.staged_is i) ((ap row_ke
 key_there : (rows : List Summary) (i : ℕ) (row : Summary) → i < length rows → row ≡ get_or rows i row → list_any (eq_by_cmp key_cmp (row_key row)) (row_keys rows) ≡ true
 key_there [] i row less is = absurd (omega arith)
 key_there (r ∷ rows) zero row less is = ap (λ x. eq_by_cmp key_cmp (row_key row) (row_key x) || list_any (eq_by_cmp key_cmp (row_key row)) (row_keys rows)) (sym is) ∙ rw (key_self (row_key row)) refl
-key_there (r ∷ rows) (suc i) row less is = later (eq_by_cmp key_cmp (row_key row) (row_key r)) _ (key_there rows i row (omega arith) is)
-  where
-    later : (a b : Bool) → b ≡ true → (a || b) ≡ true
-    later true b e = refl
-    later false b e = e
+key_there (r ∷ rows) (suc i) row less is = or_right (eq_by_cmp key_cmp (row_key row) (row_key r)) _ (key_there rows i row (omega arith) is)
 
 some_bytes : (own : Option (List ℕ)) → is_some own ≡ true → (bytes : List ℕ) × (own ≡ Some bytes)
 some_bytes None e = absurd (cc)

@@ -3,6 +3,7 @@ use Rattle.std.proofs.Common.{◌≡◌, Bool, true, false, ◌||◌, List, [], 
 use Rattle.std.specs.Prelude.{if◌then◌else◌}
 use Rattle.std.specs.List.{filter, list_any}
 use Rattle.std.specs.Ordering.{eq_by_cmp}
+use Rattle.std.proofs.lemmas.Bool.{or_right}
 use Rattle.terrain_base.specs.declared.cell_key.CellKey.{CellKey}
 use Rattle.terrain_base.specs.declared.name.Key.{Key}
 use Rattle.terrain_base.specs.declared.name.Key.TheVariants.{Stage, Cell}
@@ -47,17 +48,13 @@ not_moved staged Three key e = ap (λ b. if b then Stage else Cell (key_at key.s
 
 -- ---- the new names
 
-or_true : (a b : Bool) → b ≡ true → (a || b) ≡ true
-or_true true b e = refl
-or_true false b e = e
-
 one_moved : (p : CellKey → Bool) (key k : CellKey) (keys : List CellKey) (b c : Bool) → eq_by_cmp key_cmp key k ≡ b → p k ≡ c
     → (b || list_any (eq_by_cmp key_cmp key) keys) ≡ true → p key ≡ true
     → (list_any (eq_by_cmp key_cmp key) keys ≡ true → is_among (Cell key) (map Cell (filter p keys)) ≡ true)
     → is_among (Cell key) (map Cell (cond c (k ∷ filter p keys) (filter p keys))) ≡ true
 one_moved p key k keys true true e f at passes rest = ap (λ x. x || is_among (Cell key) (map Cell (filter p keys))) (cell_test key k ∙ e)
 one_moved p key k keys true false e f at passes rest = absurd (let same : p key ≡ p k = ap p (key_same key k e) in cc)
-one_moved p key k keys false true e f at passes rest = or_true _ _ (rest at)
+one_moved p key k keys false true e f at passes rest = or_right _ _ (rest at)
 one_moved p key k keys false false e f at passes rest = rest at
 
 -- a key that passes is among those that pass

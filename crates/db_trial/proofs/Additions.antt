@@ -1,14 +1,16 @@
 -- The entries of a map, added one after the other to a map of none: none is refused, and all of them make the map again.
-use Rattle.std.proofs.Common.{◌≡◌, ℕ, ◌+◌, ◌≤◌, ◌<◌, Bool, true, false, ◌&&◌, is_some, nat_le, cond, List, [], ◌∷◌, ◌++◌, length, map, take, drop, get_or, Option, Some, None, refl, sym, ap, subst, ◌∙◌, arith, T}
+use Rattle.std.proofs.Common.{◌≡◌, ℕ, ◌+◌, ◌≤◌, ◌<◌, Bool, true, false, is_some, nat_le, cond, List, [], ◌∷◌, ◌++◌, length, map, take, drop, get_or, Option, Some, None, refl, sym, ap, subst, ◌∙◌, arith, T, append-nil}
 use Rattle.std.specs.Prelude.{if◌then◌else◌}
 use Rattle.std.specs.declared.cmp.Ordering.{Ordering}
-use Rattle.std.specs.declared.cmp.Ordering.TheVariants.{Less, Equal, Greater}
+use Rattle.std.specs.declared.cmp.Ordering.TheVariants.{Less, Greater}
 use Rattle.std.specs.Cmp.{IsTotalOrder, tied_itself}
-use Rattle.std.specs.Ordering.{is_lt, is_eq, ordering_reverse}
+use Rattle.std.specs.Ordering.{is_eq, ordering_reverse}
 use Rattle.std.specs.FinMap.{get, keys, entries, entries_sorted, entries-insert, get-entries, same_entries_map, empty, len-entries, len-empty, find, put, is_sorted}
 use Rattle.std.specs.FinMap.Entries.{below_all, by_order}
-use Rattle.std.proofs.lemmas.List.{length-map, take_more, take-append-drop}
+use Rattle.std.proofs.lemmas.List.{length-map, take_more, take-append-drop, nil_from_length}
 use Rattle.std.proofs.lemmas.Bool.Decides.{nat_tests}
+use Rattle.common_laws.proofs.Booleans.{left_holds, right_holds}
+use Rattle.common_laws.proofs.Orders.{less_from_holds}
 use Rattle.terrain_base.specs.declared.cell_key.CellKey.{CellKey}
 use Rattle.terrain_base.specs.CellKey.{key_cmp, keys_total}
 use Rattle.database.specs.declared.answer.EngineAnswer.TheVariants.{CellPresent, DatabaseFull}
@@ -18,19 +20,6 @@ use Rattle.db_engine.specs.Holding.{no_cells}
 use Rattle.db_trial.specs.Sequence.{adding, adds, after_all}
 
 -- ---- entries in their order
-
-less_of : (o : Ordering) → T (is_lt o) → o ≡ Less
-less_of Less h = refl
-less_of Equal h = absurd h
-less_of Greater h = absurd h
-
-and_left : (a b : Bool) → T (a && b) → T a
-and_left true b h = tt
-and_left false b h = absurd h
-
-and_right : (a b : Bool) → T (a && b) → T b
-and_right true b h = h
-and_right false b h = absurd h
 
 pub moved : {A : Type 0} (xs : List A) (x : A) (ys : List A) → (xs ++ x ∷ []) ++ ys ≡ xs ++ x ∷ ys
 moved [] x ys = refl
@@ -42,30 +31,30 @@ take_whole (x ∷ xs) = ap (λ list. x ∷ list) (take_whole xs)
 
 module _ {K X : Type 0} {R : K → K → Ordering} (o : IsTotalOrder R) where
   less_at : (x : K) (front es : List (K × X)) (e : K × X) → T (below_all R x (front ++ e ∷ es)) → R x e.0 ≡ Less
-  less_at x [] es e h = less_of _ (and_left _ _ h)
-  less_at x (f ∷ front) es e h = less_at x front es e (and_right _ _ h)
+  less_at x [] es e h = less_from_holds _ (left_holds _ _ h)
+  less_at x (f ∷ front) es e h = less_at x front es e (right_holds _ _ h)
 
   -- an entry comes behind those before it
   behind : (f e : K × X) (front es : List (K × X)) → T (is_sorted R (f ∷ (front ++ e ∷ es))) → R e.0 f.0 ≡ Greater
-  behind f e front es h = o.antisymm e.0 f.0 ∙ ap ordering_reverse (less_at f.0 front es e (and_left _ _ h))
+  behind f e front es h = o.antisymm e.0 f.0 ∙ ap ordering_reverse (less_at f.0 front es e (left_holds _ _ h))
 
   pub find_in : (front es : List (K × X)) (e : K × X) → T (is_sorted R (front ++ e ∷ es)) → find R e.0 (front ++ e ∷ es) ≡ Some e.1
   find_in [] es e h = ap (λ r. cond (is_eq r) (Some e.1) (find R e.0 es)) (tied_itself o e.0)
   find_in (f ∷ front) es e h =
       ap (λ r. cond (is_eq r) (Some f.1) (find R e.0 (front ++ e ∷ es))) (behind f e front es h)
-      ∙ find_in front es e (and_right _ _ h)
+      ∙ find_in front es e (right_holds _ _ h)
 
   find_before : (front es : List (K × X)) (e : K × X) → T (is_sorted R (front ++ e ∷ es)) → find R e.0 front ≡ None
   find_before [] es e h = refl
   find_before (f ∷ front) es e h =
       ap (λ r. cond (is_eq r) (Some f.1) (find R e.0 front)) (behind f e front es h)
-      ∙ find_before front es e (and_right _ _ h)
+      ∙ find_before front es e (right_holds _ _ h)
 
   put_behind : (front es : List (K × X)) (e : K × X) → T (is_sorted R (front ++ e ∷ es)) → put R e.0 e.1 front ≡ front ++ e ∷ []
   put_behind [] es e h = refl
   put_behind (f ∷ front) es e h =
       ap (λ r. by_order r ((e.0, e.1) ∷ f ∷ front) ((f.0, e.1) ∷ front) (f ∷ put R e.0 e.1 front)) (behind f e front es h)
-      ∙ ap (λ list. f ∷ list) (put_behind front es e (and_right _ _ h))
+      ∙ ap (λ list. f ∷ list) (put_behind front es e (right_holds _ _ h))
 
 -- ---- adding them
 
@@ -110,15 +99,11 @@ grown front rest e t h = record {
   few = subst (λ list. length list ≤ 4096) (sym (moved front e rest)) h.few;
 }
 
-no_more : {A : Type 0} (xs : List A) → xs ++ [] ≡ xs
-no_more [] = refl
-no_more (x ∷ xs) = ap (λ list. x ∷ list) (no_more xs)
-
 pub all_grown : (front es rest : List (CellKey × List ℕ)) (t : State) → HasFront front (es ++ rest) t → HasFront (front ++ es) rest (after_all (map adds es) t)
 all_grown front [] rest t h = record {
-  are = h.are ∙ sym (no_more front);
-  sorted = subst (λ list. T (is_sorted key_cmp (list ++ rest))) (sym (no_more front)) h.sorted;
-  few = subst (λ list. length (list ++ rest) ≤ 4096) (sym (no_more front)) h.few;
+  are = h.are ∙ sym (append-nil front);
+  sorted = subst (λ list. T (is_sorted key_cmp (list ++ rest))) (sym (append-nil front)) h.sorted;
+  few = subst (λ list. length (list ++ rest) ≤ 4096) (sym (append-nil front)) h.few;
 }
 all_grown front (e ∷ es) rest t h =
     subst (λ list. HasFront list rest (after_all (map adds es) (next (adds e) t))) (moved front e es)
@@ -139,12 +124,8 @@ params_stay (c ∷ commands) t = params_stay commands (next c t) ∙ same_params
 
 -- ---- from none to all
 
-no_length : {A : Type 0} (xs : List A) → length xs ≡ 0 → xs ≡ []
-no_length [] e = refl
-no_length (x ∷ xs) e = absurd (omega arith)
-
 pub no_entries : {K : Type 0} (R : K → K → Ordering) → entries (empty {X = List ℕ} {R = R}) ≡ []
-no_entries R = no_length _ (sym (len-entries (empty {X = List ℕ} {R = R})) ∙ len-empty R (List ℕ))
+no_entries R = nil_from_length _ (sym (len-entries (empty {X = List ℕ} {R = R})) ∙ len-empty R (List ℕ))
 
 pub at_first : (s : State) → IsState s → HasFront [] (entries s.cells) (no_cells s.params)
 at_first s is = record {
@@ -183,7 +164,7 @@ pub added_again : (s : State) → IsState s → after_all (adding s) (no_cells s
 added_again s is =
     let t = after_all (adding s) (no_cells s.params) in
     let all = all_grown [] (entries s.cells) [] (no_cells s.params)
-    (subst (λ list. HasFront [] list (no_cells s.params)) (sym (no_more (entries s.cells))) (at_first s is)) in
+    (subst (λ list. HasFront [] list (no_cells s.params)) (sym (append-nil (entries s.cells))) (at_first s is)) in
     let cells : t.cells ≡ s.cells = same_entries_map t.cells s.cells all.are in
     let params : t.params ≡ s.params = params_stay (adding s) (no_cells s.params) in
     λ i. record { params = params i; cells = cells i }

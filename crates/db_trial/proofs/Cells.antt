@@ -1,7 +1,7 @@
 -- The key and the cell that a number tells.
-use Rattle.std.proofs.Common.{◌≡◌, ℕ, ◌+◌, ◌<◌, ◌/◌, ◌%◌, ◌==◌, ◌≢◌, true, false, List, Result, Ok, Err, IfOk, IfErr, IsOk, sym, ap, ◌∙◌, arith}
+use Rattle.std.proofs.Common.{◌≡◌, ℕ, ◌+◌, ◌<◌, ◌/◌, ◌%◌, ◌==◌, ◌≢◌, List, Result, Ok, Err, IfOk, IfErr, IsOk, sym, ap, ◌∙◌, arith}
 use Rattle.std.specs.Prelude.{if◌then◌else◌}
-use Rattle.std.proofs.lemmas.Bool.Decides.{nat_tests}
+use Rattle.std.proofs.lemmas.Bool.{eq-eqb, ne_eqb}
 use Rattle.std.proofs.Math.Nat.{mod-eq_of_lt}
 use Rattle.terrain_base.specs.declared.cell_key.CellKey.{CellKey}
 use Rattle.terrain_base.specs.declared.level.CellLevel.{CellLevel}
@@ -47,24 +47,18 @@ never_err (Err e) is = absurd (cc)
 
 -- ---- the command that a number tells
 
-is_here : (n m : ℕ) → n ≡ m → (n == m) ≡ true
-is_here n m e = grind (arith, nat_tests)
-
-is_apart : (n m : ℕ) → n ≢ m → (n == m) ≡ false
-is_apart n m e = grind (arith, nat_tests)
-
 pub removes : (drawn : ℕ) (key : CellKey) → drawn / 9 % 4 ≡ 3 → key ≡ generated_key drawn → Remove key ≡ generated drawn
 removes drawn key kind is =
     ap Remove is ∙ sym (ap (λ b. if b then Remove (generated_key drawn)
     else (if drawn / 9 % 4 == 2 then Replace (generated_key drawn) (generated_cell drawn)
-    else Add (generated_key drawn) (generated_cell drawn))) (is_here (drawn / 9 % 4) 3 kind))
+    else Add (generated_key drawn) (generated_cell drawn))) (eq-eqb (drawn / 9 % 4) 3 kind))
 
 pub replaces : (drawn : ℕ) (cell : List ℕ) → drawn / 9 % 4 ≡ 2 → key_in cell ≡ generated_key drawn → cell ≡ generated_cell drawn
     → Replace (key_in cell) cell ≡ generated drawn
 replaces drawn cell kind key is =
     let other : drawn / 9 % 4 ≢ 3 = λ e. absurd (omega arith) in
-    let third = is_apart (drawn / 9 % 4) 3 other in
-    let second = is_here (drawn / 9 % 4) 2 kind in
+    let third = ne_eqb (drawn / 9 % 4) 3 other in
+    let second = eq-eqb (drawn / 9 % 4) 2 kind in
     (λ i. Replace (key i) (is i))
     ∙ sym (λ i. if third i then Remove (generated_key drawn)
     else (if second i then Replace (generated_key drawn) (generated_cell drawn)
@@ -73,8 +67,8 @@ replaces drawn cell kind key is =
 pub adds_one : (drawn : ℕ) (cell : List ℕ) → drawn / 9 % 4 ≢ 3 → drawn / 9 % 4 ≢ 2 → key_in cell ≡ generated_key drawn → cell ≡ generated_cell drawn
     → Add (key_in cell) cell ≡ generated drawn
 adds_one drawn cell not_third not_second key is =
-    let third = is_apart (drawn / 9 % 4) 3 not_third in
-    let second = is_apart (drawn / 9 % 4) 2 not_second in
+    let third = ne_eqb (drawn / 9 % 4) 3 not_third in
+    let second = ne_eqb (drawn / 9 % 4) 2 not_second in
     (λ i. Add (key i) (is i))
     ∙ sym (λ i. if third i then Remove (generated_key drawn)
     else (if second i then Replace (generated_key drawn) (generated_cell drawn)

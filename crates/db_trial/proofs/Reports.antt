@@ -1,8 +1,8 @@
 -- What a trial tells, from what its parts leave.
-use Rattle.std.proofs.Common.{◌≡◌, ℕ, ◌+◌, ◌≤◌, ◌-ℤ◌, ◌≤ℤ◌, pos, ℤ, length, Option, Some, sym, ap, subst, ◌∙◌, arith}
+use Rattle.std.proofs.Common.{◌≡◌, ℕ, ◌+◌, ◌≤◌, ◌-ℤ◌, ◌≤ℤ◌, pos, length, Option, Some, sym, ap, subst, ◌∙◌, arith}
 use mathlib.Core.HLevel.{is_prop→PathP}
 use Rattle.std.specs.Coded.{le_prop}
-use Rattle.std.proofs.Math.Dec.{T_prop}
+use Rattle.common_laws.proofs.Orders.{at_most_prop}
 use Rattle.terrain_base.specs.declared.params.Params.{Params}
 use Rattle.terrain_base.specs.Step.{Files}
 use Rattle.availability.specs.Count.{tile_count_of}
@@ -21,17 +21,14 @@ use Rattle.db_trial.specs.Trial.{IsTrial, begun_tiles, bytes_in, trial_end, tria
 use Rattle.db_trial.proofs.Additions.{params_stay}
 use Rattle.db_trial.proofs.Beginnings.{total_of}
 
-le_z_prop : (a b : ℤ) → IsProp (a ≤ℤ b)
-le_z_prop a b = λ x y i. record { le = T_prop _ x.le y.le i }
-
 -- the params of a trial, whatever shows that they are in range
 pub are_params : (p : Params) → p.cap ≡ 9 → p.fill ≡ pos 0 → p ≡ trial_params
 are_params p c f = λ i. record {
   cap = c i;
   fill = f i;
   cap_in_range = is_prop→PathP (λ j. c j ≤ 14) (λ j. le_prop) p.cap_in_range trial_params.cap_in_range i;
-  fill_above = is_prop→PathP (λ j. (pos 0 -ℤ pos 16000) ≤ℤ f j) (λ j. le_z_prop _ _) p.fill_above trial_params.fill_above i;
-  fill_below = is_prop→PathP (λ j. f j ≤ℤ pos 16000) (λ j. le_z_prop _ _) p.fill_below trial_params.fill_below i;
+  fill_above = is_prop→PathP (λ j. (pos 0 -ℤ pos 16000) ≤ℤ f j) (λ j. at_most_prop _ _) p.fill_above trial_params.fill_above i;
+  fill_below = is_prop→PathP (λ j. f j ≤ℤ pos 16000) (λ j. at_most_prop _ _) p.fill_below trial_params.fill_below i;
 }
 
 -- the state that the commands leave has these params too

@@ -23,7 +23,7 @@ use Rattle.database.specs.State.{State, IsState, AreFiles, ReadsAs, ReadsFor, St
 use Rattle.database.proofs.Command.{command_stands, command_ends}
 use Rattle.database.proofs.Settled.{settling_fronts, settling_files, settling_reads}
 use Rattle.database.proofs.Starting.{calls_stand, calls_end, files_stand}
-use Rattle.db_engine.proofs.CellRows.{IsSoundEdit, HasRoomFor, count_is, has_row_is, state_after}
+use Rattle.db_engine.proofs.CellRows.{IsSoundEdit, HasRoomFor, count_is, state_after}
 use Rattle.db_engine.proofs.EditReads.{edit_closed, edit_reads, settles_closed}
 use Rattle.db_engine.proofs.Starts.{has_all}
 use Rattle.top_reply.specs.Check.{check_course}
@@ -36,6 +36,7 @@ use Rattle.top_reply.specs.Passed.{Passes, PassesBy, Reaches, ReachesBy}
 use Rattle.top_reply.specs.Reply.{refused_reply}
 use Rattle.top_reply.proofs.OneLines.{one_list}
 use Rattle.top_reply.proofs.Paths.{Leads, Path, last_behind, last_of, path_append}
+use Rattle.db_files.proofs.RowKeys.{row_there}
 
 -- ---- two ways in which files are those of a state
 
@@ -176,7 +177,7 @@ room_for (database.Add key bytes) s none =
     let few = room_by (has_key s key) (length (keys s.cells)) (CellPresent key.square key.level) DatabaseFull none in
     inr (omega (arith, few, count_is s.cells))
 room_for (database.Replace key bytes) s none =
-    inl (has_row_is s.cells key ∙ held_by (has_key s key) (CellAbsent key.square key.level) none)
+    inl (row_there s.cells key ∙ held_by (has_key s key) (CellAbsent key.square key.level) none)
 room_for (database.Remove key) s none = tt
 
 accepted_state : (c : Command) (s : State) → refusal_of c s ≡ None → IsSoundEdit (edit_of c) → IsState s

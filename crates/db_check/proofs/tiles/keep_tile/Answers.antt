@@ -1,9 +1,9 @@
 use Rattle.std.proofs.Common.{sym, ap, subst, ◌∙◌}
+use Rattle.std.proofs.lemmas.Result.{IfOk-weaker}
 use Rattle.terrain_base.specs.declared.name.Key.TheVariants.{Terrain, Note}
 use Rattle.database.specs.Verdict.{difference_at, IsLeast}
 use Rattle.db_files.proofs.Parts.{same_stop, told_stop}
 use Rattle.db_files.proofs.Troubles.{fault_is, stop_on, stops_only, trouble_on}
-use Rattle.db_check.proofs.Passing.{ok_on}
 use Rattle.db_check.proofs.TileNames.{file_as, terrain_file, note_file, two_names}
 use Rattle.db_check.proofs.tiles.keep_tile.Goals as goal
 
@@ -43,7 +43,7 @@ pub returns-clause-trouble : goal.returns-clause-trouble
 returns-clause-trouble g c = stops_only _ _ c.keep_compared-2.result c.keep_compared-2.ensures.stop
 
 pub returns-clause-least : goal.returns-clause-least
-returns-clause-least g c = ok_on c.keep_compared-2.result _ _ (λ least tells files s names held h there before.
+returns-clause-least g c = IfOk-weaker c.keep_compared-2.result _ _ (λ least tells files s names held h there before.
     let made = c.in_ok-made.ensures.made s.cells h.told_is h.rows_is in
     let now = c.in_ok-made.ensures.leaves.keeps.held ∙ held in
     let terrain = file_as s (Terrain c.args.tile) c.terrain.ensures (c.deref.ensures.value ∙ made.terrain)

@@ -7,8 +7,9 @@ use Rattle.db_engine.specs.Opened.{contents_of}
 use Rattle.db_engine.specs.Rows.{HasRoom, with_row}
 use Rattle.db_engine.proofs.EditsEnd.{put_opening, put_closing, put_rows_are, sound_after}
 use Rattle.db_files.proofs.Troubles.{trouble_on}
+use Rattle.db_files.proofs.Parts.{same_stop}
 use Rattle.db_engine.proofs.EditTroubles.{edit_stop, put_trouble}
-use Rattle.db_engine.proofs.Passing.{same_stop, turned_off}
+use Rattle.db_engine.proofs.Passing.{turned_off}
 use Rattle.db_engine.proofs.commands.put_row.Goals as goal
 
 pub with_row-requires-clause-rows : goal.with_row-requires-clause-rows

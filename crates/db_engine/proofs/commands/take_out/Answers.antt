@@ -4,12 +4,13 @@ use Rattle.database.specs.Cells.{AreRows, has_row}
 use Rattle.database.specs.Commands.{DropCell, after}
 use Rattle.std.specs.Prelude.{true, not}
 use Rattle.db_engine.specs.Opened.{contents_of}
-use Rattle.db_engine.proofs.RowLists.{has_row-keys}
 use Rattle.db_engine.specs.Rows.{without_row}
 use Rattle.db_engine.proofs.EditsEnd.{drop_opening, drop_closing, drop_rows_are, sound_after}
 use Rattle.db_files.proofs.Troubles.{trouble_on}
+use Rattle.db_files.proofs.Parts.{same_stop}
+use Rattle.db_files.proofs.RowKeys.{any_key}
 use Rattle.db_engine.proofs.EditTroubles.{edit_stop, drop_trouble}
-use Rattle.db_engine.proofs.Passing.{same_stop, turned_off}
+use Rattle.db_engine.proofs.Passing.{turned_off}
 use Rattle.db_engine.proofs.commands.take_out.Goals as goal
 
 pub without_row-requires : goal.without_row-requires
@@ -17,7 +18,7 @@ without_row-requires g c = subst AreRows (sym c.summaries.ensures.value) c.summa
 
 pub put_mark-requires-clause-fits : goal.put_mark-requires-clause-fits
 put_mark-requires-clause-fits g c =
-    ap not (sym (has_row-keys c.deref.result.now c.args.key) ∙ ap (λ rows. has_row rows c.args.key) c.deref.ensures.value ∙ c.in_ok-rows.ensures.gone)
+    ap not (sym (any_key c.deref.result.now c.args.key) ∙ ap (λ rows. has_row rows c.args.key) c.deref.ensures.value ∙ c.in_ok-rows.ensures.gone)
 
 pub returns-in_err-rows-clause-ran : goal.returns-in_err-rows-clause-ran
 returns-in_err-rows-clause-ran g c = λ s h. at_err c.from_residual.result _ c.from_residual.ensures.1 (not_yet refl refl)

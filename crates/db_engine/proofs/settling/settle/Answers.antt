@@ -1,13 +1,14 @@
 use Rattle.std.proofs.Common.{refl, sym, ap, subst, ◌∙◌, ◌≤◌, ◌+◌}
+use Rattle.common_laws.proofs.Options.{if_err_is}
 use Rattle.terrain_base.proofs.Runs.{at_ok, at_err, not_yet}
 use Rattle.db_engine.specs.Settling.{count_settling}
-use Rattle.db_engine.proofs.Passing.{same_stop, err_is}
 use Rattle.db_engine.proofs.Settles.{known_of, opened_of, opened_reads, settles_of, leaves_of, refusal_told, refusal_stop, left_idle, left_read, done_as, stopped_as, known_held}
 use Rattle.db_engine.proofs.settling.settle.Goals as goal
+use Rattle.db_files.proofs.Parts.{same_stop}
 
 pub returns-in_err-reading-clause-refused : goal.returns-in_err-reading-clause-refused
 returns-in_err-reading-clause-refused g c =
-    err_is c.from_residual.result _ _ c.from_residual.ensures.1 (λ files is. refusal_told _ files _ _ _ _ _ (c.in_err-reading.ensures.refused files is) (record { same_held = c.in_err-reading.ensures.same ∙ is; same_log = c.in_err-reading.ensures.quiet; same_work = refl }))
+    if_err_is c.from_residual.result _ _ c.from_residual.ensures.1 (λ files is. refusal_told _ files _ _ _ _ _ (c.in_err-reading.ensures.refused files is) (record { same_held = c.in_err-reading.ensures.same ∙ is; same_log = c.in_err-reading.ensures.quiet; same_work = refl }))
 
 pub returns-in_err-reading-clause-ran : goal.returns-in_err-reading-clause-ran
 returns-in_err-reading-clause-ran g c = λ files s m is reads.
@@ -23,7 +24,7 @@ returns-in_err-reading-clause-leaves g c = λ files s m is reads.
 
 pub returns-in_err-finish-clause-refused : goal.returns-in_err-finish-clause-refused
 returns-in_err-finish-clause-refused g c =
-    err_is c.from_residual-in_err-finish.result _ _ c.from_residual-in_err-finish.ensures.1 (λ files is.
+    if_err_is c.from_residual-in_err-finish.result _ _ c.from_residual-in_err-finish.ensures.1 (λ files is.
     let read = c.in_ok-reading.ensures in
     let found = read.found files is in
     refusal_stop _ files _ _ _ _ _ (c.in_err-finish.ensures.stop found.state (known_held _ _ _ (read.same ∙ is) found.known)))

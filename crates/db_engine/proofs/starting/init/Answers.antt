@@ -1,8 +1,8 @@
 use Rattle.std.proofs.Common.{◌∙◌}
+use Rattle.common_laws.proofs.Options.{if_err_is}
 use Rattle.terrain_base.proofs.Runs.{at_ok, at_err, goes_on, both_done, quiet, not_yet}
 use Rattle.db_engine.specs.Holding.{no_cells}
 use Rattle.db_engine.proofs.EditTroubles.{no_rows_trouble}
-use Rattle.db_engine.proofs.Passing.{err_is}
 use Rattle.db_engine.proofs.RowLists.{none_are_rows}
 use Rattle.db_engine.proofs.Starts.{none_filling, started, full_stop}
 use Rattle.db_engine.proofs.starting.init.Goals as goal
@@ -23,7 +23,7 @@ returns-in_err-names-clause-starts g c = λ files is none.
 
 pub returns-in_err-restart-clause-refused : goal.returns-in_err-restart-clause-refused
 returns-in_err-restart-clause-refused g c =
-    err_is c.from_residual-in_err-restart.result _ _ c.from_residual-in_err-restart.ensures.1 (λ files is.
+    if_err_is c.from_residual-in_err-restart.result _ _ c.from_residual-in_err-restart.ensures.1 (λ files is.
     let filling = none_filling _ c.args.params _ files (c.in_ok-names.ensures.same ∙ is) (c.deref.ensures.value ∙ c.new-rows.ensures.items) in
     full_stop _ files _ _ _ (c.in_err-restart.ensures.stop files (no_cells c.args.params) filling))
 
@@ -59,4 +59,4 @@ returns-clause-few g c = λ files is none.
 
 pub returns-in_err-restart-clause-kinds : goal.returns-in_err-restart-clause-kinds
 returns-in_err-restart-clause-kinds g c =
-    err_is c.from_residual-in_err-restart.result _ _ c.from_residual-in_err-restart.ensures.1 (no_rows_trouble _ _ _ (c.deref.ensures.value ∙ c.new-rows.ensures.items) c.in_err-restart.ensures.trouble)
+    if_err_is c.from_residual-in_err-restart.result _ _ c.from_residual-in_err-restart.ensures.1 (no_rows_trouble _ _ _ (c.deref.ensures.value ∙ c.new-rows.ensures.items) c.in_err-restart.ensures.trouble)

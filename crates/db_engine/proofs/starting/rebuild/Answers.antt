@@ -3,8 +3,8 @@ use Rattle.database.specs.Cells.{AreRows}
 use Rattle.terrain_base.proofs.Runs.{at_ok, at_err}
 use Rattle.db_files.specs.Trouble.{OnlyStopsOrRowTrouble}
 use Rattle.db_files.proofs.Troubles.{trouble_on}
+use Rattle.db_files.proofs.Parts.{same_stop}
 use Rattle.db_engine.specs.Opened.{contents_of}
-use Rattle.db_engine.proofs.Passing.{same_stop}
 use Rattle.db_engine.proofs.Starts.{holds_filling, rebuilds_of, rebuilds_stop, rebuilt}
 use Rattle.db_engine.proofs.starting.rebuild.Goals as goal
 

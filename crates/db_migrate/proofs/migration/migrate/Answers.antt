@@ -1,9 +1,10 @@
 use Rattle.std.proofs.Common.{refl, sym, subst, ◌∙◌}
+use Rattle.common_laws.proofs.Options.{if_err_is}
 use Rattle.database.specs.Cells.{AreRows}
 use Rattle.terrain_base.proofs.Runs.{at_ok, at_err, not_yet, stops, goes_on, both_done}
-use Rattle.db_engine.proofs.Passing.{same_stop, err_is}
 use Rattle.db_migrate.proofs.Bringing.{brings_of, brought, files_done, filling, keeps, left_idle, left_read, old_done, old_some, refusal_stop, refusal_told}
 use Rattle.db_migrate.proofs.migration.migrate.Goals as goal
+use Rattle.db_files.proofs.Parts.{same_stop}
 
 -- ---- what the calls ask
 
@@ -17,7 +18,7 @@ of-requires g c = c.in_ok-old.ensures.rows
 
 pub returns-in_err-old-clause-refused : goal.returns-in_err-old-clause-refused
 returns-in_err-old-clause-refused g c =
-    err_is c.from_residual.result _ _ c.from_residual.ensures.1 (λ files is. refusal_told _ files (c.in_err-old.ensures.refused files is) (record { same_held = c.in_err-old.ensures.same ∙ is; same_log = c.in_err-old.ensures.quiet; same_work = refl }))
+    if_err_is c.from_residual.result _ _ c.from_residual.ensures.1 (λ files is. refusal_told _ files (c.in_err-old.ensures.refused files is) (record { same_held = c.in_err-old.ensures.same ∙ is; same_log = c.in_err-old.ensures.quiet; same_work = refl }))
 
 pub returns-in_err-old-clause-left : goal.returns-in_err-old-clause-left
 returns-in_err-old-clause-left g c = λ files opening is opens.
@@ -39,7 +40,7 @@ returns-in_err-old-clause-brings g c = λ files v s mark is reads.
 
 pub returns-in_err-move_cells-clause-refused : goal.returns-in_err-move_cells-clause-refused
 returns-in_err-move_cells-clause-refused g c =
-    err_is c.from_residual-in_err-move_cells.result _ _ c.from_residual-in_err-move_cells.ensures.1 (λ files is.
+    if_err_is c.from_residual-in_err-move_cells.result _ _ c.from_residual-in_err-move_cells.ensures.1 (λ files is.
     let read = c.in_ok-old.ensures in
     let found = read.found files is in
     refusal_stop _ files _ _ _ _ _ (c.in_err-move_cells.ensures.stop files found.state found.mark (keeps _ found.is (read.same ∙ is) c.deref.ensures.value)))
@@ -73,7 +74,7 @@ returns-in_err-move_cells-clause-brings g c = λ files v s mark is reads.
 
 pub returns-in_err-restart-clause-refused : goal.returns-in_err-restart-clause-refused
 returns-in_err-restart-clause-refused g c =
-    err_is c.from_residual-in_err-restart.result _ _ c.from_residual-in_err-restart.ensures.1 (λ files is.
+    if_err_is c.from_residual-in_err-restart.result _ _ c.from_residual-in_err-restart.ensures.1 (λ files is.
     let read = c.in_ok-old.ensures in
     let found = read.found files is in
     let moves = old_done found.is read.same read.quiet (c.in_ok-move_cells.ensures.ran files found.state found.mark (keeps _ found.is (read.same ∙ is) c.deref.ensures.value)).ok in

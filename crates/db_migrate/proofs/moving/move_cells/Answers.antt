@@ -2,9 +2,9 @@ use Rattle.std.proofs.Common.{◌∙◌, ap, arith}
 use Rattle.terrain_base.proofs.Runs.{all_as, at_ok, both_done, goes_on, stops, at_err, some_as}
 use Rattle.std.proofs.lemmas.List.{take_all}
 use Rattle.database.specs.Cells.{row_keys}
-use Rattle.db_engine.proofs.Passing.{same_stop}
 use Rattle.db_migrate.proofs.CellMoves.{gives_key, key_steps, more_moved, split_moved, steps_read, moved_steps}
 use Rattle.db_migrate.proofs.moving.move_cells.Goals as goal
+use Rattle.db_files.proofs.Parts.{same_stop}
 
 pub returns-in_err-move_cell-clause-ran : goal.returns-in_err-move_cell-clause-ran
 returns-in_err-move_cell-clause-ran g c = λ files s mark k.
