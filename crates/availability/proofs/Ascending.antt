@@ -13,10 +13,6 @@ abbrev pub Ascend : List RowRun → Type 0
 Ascend [] = ⊤
 Ascend (run ∷ later) = IsNonempty run × AllByRecursion (IsApart run) later × Ascend later
 
-pub each : {X : Type 0} (P Q : X → Type 0) → ((x : X) → P x → Q x) → (xs : List X) → AllByRecursion P xs → AllByRecursion Q xs
-each P Q f [] h = tt
-each P Q f (x ∷ xs) h = (f x h.0, each P Q f xs h.1)
-
 pub nonempty_of : (runs : List RowRun) → Ascend runs → All IsNonempty runs
 nonempty_of [] h = All-nil IsNonempty
 nonempty_of (run ∷ later) h = All-cons IsNonempty run later h.0 (nonempty_of later h.2)

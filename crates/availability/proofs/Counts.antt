@@ -6,6 +6,7 @@ use Rattle.std.proofs.lemmas.Bool.{cases_Bool, lt-ltb, ltb-true, and_parts, or_l
 use Rattle.std.proofs.lemmas.Bool.Decides.{nat_tests}
 use Rattle.std.proofs.lemmas.List.Sums.{sum_by-cons}
 use Rattle.std.proofs.Math.Nat.{pow-le-pow_right, mul-le-mul}
+use Rattle.common_laws.proofs.Booleans.{one_at_most}
 use Rattle.terrain_base.specs.declared.summary.Summary.{Summary}
 use Rattle.tms_tree.proofs.Touching.{doubled}
 use Rattle.availability.specs.Existence.{exists_at, is_tile, makes_at}
@@ -106,14 +107,10 @@ count_same a b columns rows h =
     sum_same (λ r. sum_below (λ c. cond (a r c) 1 0) columns) (λ r. sum_below (λ c. cond (b r c) 1 0) columns)
     (λ r. sum_same (λ c. cond (a r c) 1 0) (λ c. cond (b r c) 1 0) (λ c. ap (λ t. cond t 1 0) (h r c)) columns) rows
 
-at_most_one : (b : Bool) → cond b 1 0 ≤ 1
-at_most_one true = omega arith
-at_most_one false = omega arith
-
 count_at_most : (test : ℕ → ℕ → Bool) (columns rows : ℕ) → count_of test columns rows ≤ rows * columns
 count_at_most test columns rows =
     sum_at_most (λ r. sum_below (λ c. cond (test r c) 1 0) columns) columns
-    (λ r. let most = sum_at_most (λ c. cond (test r c) 1 0) 1 (λ c. at_most_one (test r c)) columns in omega (arith, most)) rows
+    (λ r. let most = sum_at_most (λ c. cond (test r c) 1 0) 1 (λ c. one_at_most (test r c)) columns in omega (arith, most)) rows
 
 exists_within : (cap : ℕ) (cells : List Summary) (z r c : ℕ) → exists_at cap cells z r c ≡ true → (c < 2 ^ (z + 1)) × (r < 2 ^ z)
 exists_within cap cells z r c h =

@@ -5,6 +5,7 @@ use Rattle.std.proofs.Common.{arith, inl, inr, refl, sym, ap, ◌∙◌}
 use Rattle.std.proofs.lemmas.Bool.{and_parts, and_from, or_cases, or_left, or_right, leb-true, le-leb, ltb-true, lt-ltb, eqb-true, eq-eqb, and_left, cases_Bool, cases_lt}
 use Rattle.std.proofs.lemmas.List.Folds.{Any-from_list_any}
 use Rattle.std.proofs.lemmas.Nat.{pow_pos}
+use Rattle.common_laws.proofs.Lists.{map_same}
 use Rattle.terrain_base.specs.declared.summary.Summary.{Summary}
 use Rattle.terrain_base.specs.declared.tile.TileId.{TileId}
 use Rattle.tms_tree.specs.Touch.{crosses_at, overlaps_of}
@@ -136,13 +137,9 @@ same_runs cap top cells others same z =
     only_runs top z others (runs_of cap cells z)
     (record { nonempty = runs.nonempty; apart = runs.apart; exact = λ r c. runs.exact r c ∙ same_places cap top cells others same z r c })
 
-same_map : {A B : Type 0} (f g : A → B) → ((x : A) → f x ≡ g x) → (xs : List A) → map f xs ≡ map g xs
-same_map f g h [] = refl
-same_map f g h (x ∷ xs) = rw (h x, same_map f g h xs) refl
-
 pub same_text : (cap top : ℕ) (cells others : List Summary) → SameTiles cap top cells others → layer_text_of cap cells ≡ layer_text_of top others
 unfolding layer_text_of
 same_text cap top cells others same =
     ap (λ levels. layer_text_from levels (deepest_of cap cells))
-    (same_map (runs_of cap cells) (runs_of top others) (same_runs cap top cells others same) (range_with_len 0 (deepest_of cap cells + 1)))
+    (map_same (runs_of cap cells) (runs_of top others) (same_runs cap top cells others same) (range_with_len 0 (deepest_of cap cells + 1)))
     ∙ ap (λ n. layer_text_from (map (runs_of top others) (range_with_len 0 (n + 1))) n) (same_deepest cap top cells others same)

@@ -4,6 +4,7 @@ use Rattle.std.specs.List.{list_any, Contains}
 use Rattle.std.proofs.Common.{arith, inl, inr, ap, refl, sym, ◌∙◌}
 use Rattle.std.proofs.lemmas.Bool.{and_parts, and_from, and_left, or_cases, or_left, or_right, or_from, leb-true, le-leb, lt-leb, lt-ltb, ltb-true, eqb-true, eq-eqb, ne_eqb, false_from_ne_true, both_ways}
 use Rattle.std.proofs.lemmas.List.Folds.{Any-from_list_any, list_any_at, list_any_none, list_any-append}
+use Rattle.common_laws.proofs.Booleans.{same_from_both}
 use Rattle.terrain_base.specs.declared.summary.Summary.{Summary}
 use Rattle.terrain_base.specs.declared.square.Square.{Square}
 use Rattle.terrain_base.specs.declared.tile.TileId.{TileId}
@@ -82,10 +83,6 @@ more_exists cap cells others tile near h =
           let one = Any-from_list_any (makes_of cap tile) cells e in
           or_right (tile.z == 0) _ (any_from (makes_of cap tile) others one.1 (near one.1 (makes_touches cap tile one.1 one.4) (one.0, one.2, one.3)) one.4)
     ]
-
-pub same_from_both : (a b : Bool) → (a ≡ true → b ≡ true) → (b ≡ true → a ≡ true) → a ≡ b
-same_from_both true b f g = sym (f refl)
-same_from_both false b f g = sym (false_from_ne_true b (λ e. both_ways false refl (g e)))
 
 pub same_near : (cap : ℕ) (cells others : List Summary) (tile : TileId) → HasNear tile cells others → HasNear tile others cells → exists_of cap cells tile ≡ exists_of cap others tile
 same_near cap cells others tile f g = same_from_both _ _ (more_exists cap cells others tile f) (more_exists cap others cells tile g)

@@ -8,6 +8,7 @@ use Rattle.std.proofs.lemmas.Bool.Decides.{nat_tests}
 use Rattle.std.proofs.lemmas.List.Folds.{Any-from_list_any}
 use Rattle.std.proofs.lemmas.List.Sorted.{list_any-IsPermutation}
 use Rattle.std.proofs.Math.Nat.{mul-le-mul_right}
+use Rattle.std.proofs.Math.Bool.{or-false}
 use Rattle.terrain_base.specs.Level.{depth_of}
 use Rattle.terrain_base.specs.declared.level.CellLevel.{CellLevel}
 use Rattle.terrain_base.specs.declared.level.CellLevel.TheVariants.{Zero, One, Two}
@@ -19,7 +20,7 @@ use Rattle.availability.specs.Crossing.{is_top}
 use Rattle.availability.specs.Existence.{reach_of, is_tile, makes_at, exists_at}
 use Rattle.availability.specs.Merge.{AreJoined}
 use Rattle.availability.specs.Runs.{has_at, is_in_runs, AreRuns}
-use Rattle.availability.proofs.Scans.{or_false, and_true}
+use Rattle.availability.proofs.Scans.{and_true}
 
 -- ---- what a cell makes is a tile
 
@@ -57,7 +58,7 @@ top_at z row column e = rw e (top_tile row column)
 
 joined_test : (top place any tile : Bool) → (any ≡ true → tile ≡ true) → (top ≡ true → place ≡ tile) → ((top && place) || any) ≡ (tile && (top || any))
 joined_test true place true tile h g = or_right place true refl ∙ sym (rw (h refl))
-joined_test true place false tile h g = or_false place ∙ g refl ∙ sym (and_true tile)
+joined_test true place false tile h g = or-false place ∙ g refl ∙ sym (and_true tile)
 joined_test false place true tile h g = sym (rw (h refl))
 joined_test false place false true h g = refl
 joined_test false place false false h g = refl

@@ -9,10 +9,11 @@ use Rattle.std.proofs.lemmas.Bool.Decides.{nat_tests}
 use Rattle.std.proofs.lemmas.List.{append_assoc, drop_all}
 use Rattle.std.proofs.lemmas.List.Elements.{All-from_recursion, recursion_from_All}
 use Rattle.std.proofs.lemmas.List.Kept.{AllPairs-cons}
+use Rattle.common_laws.proofs.Lists.{all_weaker}
 use Rattle.availability.specs.declared.row_run.RowRun.{RowRun}
 use Rattle.availability.specs.Runs.{has_at, is_in_runs, IsNonempty, IsApart}
 use Rattle.availability.specs.Merge.{IsBehind, joins_of, grown_of, Takes, AreJoined}
-use Rattle.availability.proofs.Ascending.{Ascend, each, nonempty_of, apart_of}
+use Rattle.availability.proofs.Ascending.{Ascend, nonempty_of, apart_of}
 
 abbrev pub Rise : List RowRun → Type 0
 Rise [] = ⊤
@@ -113,7 +114,7 @@ merged_ascend run (next ∷ later) h n =
     (λ e. merged_ascend (grown_of run next) later (h.0.1, h.1.1) (grown_nonempty run next n.0, n.1.1))
     (λ e.
     let far : IsApart run next = apart_unless run next e h.0.0 in
-    (n.0, apart_kept run next later far (each (IsBehind next) (IsApart run) (λ x b. behind_on run next x far b) later h.1.0), merged_ascend next later h.1 n.1))
+    (n.0, apart_kept run next later far (all_weaker (IsBehind next) (IsApart run) (λ x b. behind_on run next x far b) later h.1.0), merged_ascend next later h.1 n.1))
 
 -- ---- sorted
 
@@ -151,7 +152,7 @@ behind_both a b c (inr h) (inl g) = inl (omega arith)
 behind_both a b c (inr h) (inr g) = inr (omega arith, omega arith)
 
 behind_all : (a b : RowRun) (later : List RowRun) → IsBehind a b → AllByRecursion (IsBehind b) later → AllByRecursion (IsBehind a) later
-behind_all a b later h = each (IsBehind b) (IsBehind a) (λ x g. behind_both a b x h g) later
+behind_all a b later h = all_weaker (IsBehind b) (IsBehind a) (λ x g. behind_both a b x h g) later
 
 pub rise_from : (runs : List RowRun) → IsSortedBy run_less runs → Rise runs
 rise_from [] h = tt

@@ -4,11 +4,13 @@ use Rattle.std.specs.List.{AllByRecursion}
 use Rattle.std.proofs.Common.{arith, inl, inr, refl, sym, ap, ◌∙◌}
 use Rattle.std.proofs.lemmas.Bool.{and_parts, and_cases, and_left, eqb-true, eqb-false, eq-eqb, le-leb, lt-ltb, cond_both, cases_eq, lt-leb, ne_eqb}
 use Rattle.std.proofs.lemmas.Bool.Decides.{nat_tests}
+use Rattle.std.proofs.Math.Bool.{or-false}
+use Rattle.common_laws.proofs.Lists.{all_weaker}
 use Rattle.terrain_base.specs.declared.summary.Summary.{Summary}
 use Rattle.availability.specs.declared.row_run.RowRun.{RowRun}
 use Rattle.availability.specs.Existence.{exists_at, is_tile}
 use Rattle.availability.specs.Runs.{has_at, is_in_runs, IsNonempty, IsApart, with_column, row_runs, rows_runs, runs_of, AreRuns}
-use Rattle.availability.proofs.Ascending.{Ascend, each, apart_on, ascend_from, nonempty_of, apart_of}
+use Rattle.availability.proofs.Ascending.{Ascend, apart_on, ascend_from, nonempty_of, apart_of}
 use Rattle.availability.proofs.OneList.{one_list}
 
 -- the run does not begin before the place
@@ -50,17 +52,17 @@ with_ascend row column (run ∷ later) h f =
     let m = meets_parts row column run e in
     let n = h.0 in
     let long : column ≤ run.end = omega (arith, m.start_is) in
-    (long, each (IsApart run) (IsApart (record { row = row; start = column; end = run.end })) (λ x g. longer_apart row column run x m.row_is g) later h.1, h.2))
+    (long, all_weaker (IsApart run) (IsApart (record { row = row; start = column; end = run.end })) (λ x g. longer_apart row column run x m.row_is g) later h.1, h.2))
     (λ e.
     let first = single_apart row column run e f.0 in
-    (omega arith, (first, each (IsApart run) (IsApart (single row column)) (λ x g. apart_on (single row column) run x h.0 first g) later h.1), h))
+    (omega arith, (first, all_weaker (IsApart run) (IsApart (single row column)) (λ x g. apart_on (single row column) run x h.0 first g) later h.1), h))
 
 from_west_one : (row column : ℕ) (run : RowRun) → From row (column + 1) run → From row column run
 from_west_one row column run (inl h) = inl h
 from_west_one row column run (inr h) = inr (h.0, omega arith)
 
 from_west : (row column : ℕ) (east : List RowRun) → AllByRecursion (From row (column + 1)) east → AllByRecursion (From row column) east
-from_west row column east h = each (From row (column + 1)) (From row column) (λ x g. from_west_one row column x g) east h
+from_west row column east h = all_weaker (From row (column + 1)) (From row column) (λ x g. from_west_one row column x g) east h
 
 pub with_from : (row column : ℕ) (east : List RowRun) → AllByRecursion (From row (column + 1)) east → AllByRecursion (From row column) (with_column row column east)
 with_from row column [] f = (inr (refl, omega arith), tt)
@@ -103,10 +105,6 @@ with_places row column (run ∷ later) r c h =
 
 -- ---- the columns of a row
 
-pub or_false : (b : Bool) → (b || false) ≡ b
-or_false true = refl
-or_false false = refl
-
 and_false : (a b : Bool) → ((a && false) || b) ≡ b
 and_false true b = refl
 and_false false b = refl
@@ -139,7 +137,7 @@ peel s left x t u same =
           let b : nat_le (s + 1) x ≡ false = lt-leb _ _ (omega arith) in
           let c : nat_le s x ≡ true = le-leb _ _ (omega arith) in
           let d : nat_lt x (s + suc left) ≡ true = lt-ltb _ _ (omega arith) in
-          rw (a, b, c, d, same e, or_false) refl
+          rw (a, b, c, d, same e, or-false) refl
       | inr ne ↦
           let a : (s == x) ≡ false = ne_eqb _ _ ne in
           let b : nat_le (s + 1) x ≡ nat_le s x = grind (arith, nat_tests) in
@@ -169,7 +167,7 @@ row_of : (test : ℕ → ℕ → Bool) (row column left : ℕ) (later : List Row
 unfolding row_runs
 row_of test row column zero later h f = record {
   ascending = h;
-  from = each (λ run. row < run.row) (From row column) (λ x g. from_below row column x g) later f;
+  from = all_weaker (λ run. row < run.row) (From row column) (λ x g. from_below row column x g) later f;
   places = λ r c. sym (ap (λ b. ((row == r) && b) || is_in_runs later r c) (no_column column c (test row c)) ∙ and_false (row == r) (is_in_runs later r c));
 }
 row_of test row column (suc left) later h f =
@@ -207,10 +205,10 @@ rows_of test columns row zero = record { ascending = tt; from = tt; places = λ 
 rows_of test columns row (suc left) =
     let north = rows_of test columns (row + 1) left in
     let list = rows_runs test columns (row + 1) left in
-    let one = row_of test row 0 columns list north.ascending (each (λ run. row + 1 ≤ run.row) (λ run. row < run.row) (λ x g. omega arith) list north.from) in
+    let one = row_of test row 0 columns list north.ascending (all_weaker (λ run. row + 1 ≤ run.row) (λ run. row < run.row) (λ x g. omega arith) list north.from) in
     record {
       ascending = one.ascending;
-      from = each (From row 0) (λ run. row ≤ run.row) (λ x g. row_at_least row x g) (row_runs test row 0 columns list) one.from;
+      from = all_weaker (From row 0) (λ run. row ≤ run.row) (λ x g. row_at_least row x g) (row_runs test row 0 columns list) one.from;
       places = λ r c. one.places r c
           ∙ ap (λ b. ((row == r) && ((nat_le 0 c && nat_lt c (0 + columns)) && test row c)) || b) (north.places r c)
           ∙ ap (λ b. ((row == r) && (b && test row c)) || ((nat_le (row + 1) r && nat_lt r (row + 1 + left)) && (nat_lt c columns && test r c))) (first_columns columns c)

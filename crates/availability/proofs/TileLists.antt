@@ -4,6 +4,7 @@ use Rattle.std.specs.List.{list_any, AllPairs, Contains}
 use Rattle.std.proofs.Common.{arith, inl, inr, refl, sym, ap, subst, ◌∙◌}
 use Rattle.std.proofs.lemmas.Bool.{and_parts, and_from, eqb-true, eq-eqb, lt-ltb, cases_Bool, cases_lt, both_ways, false_from_ne_true}
 use Rattle.std.proofs.lemmas.List.Folds.{Any-from_list_any}
+use Rattle.common_laws.proofs.Booleans.{same_from_both}
 use Rattle.terrain_base.specs.declared.summary.Summary.{Summary}
 use Rattle.terrain_base.specs.declared.tile.TileId.{TileId}
 use Rattle.terrain_base.proofs.TileNumbers.{same_tile}
@@ -13,7 +14,7 @@ use Rattle.availability.specs.Runs.{has_at}
 use Rattle.availability.proofs.Ascending.{has_parts, has_from}
 use Rattle.availability.proofs.Counts.{sum_plus, sum_same, sum_none, sum_one, count_same, run_count, one_or}
 use Rattle.availability.proofs.Deepest.{tile_of, at_numbers}
-use Rattle.availability.proofs.Existing.{exists_law, any_from, same_from_both, above_cap}
+use Rattle.availability.proofs.Existing.{exists_law, any_from, above_cap}
 
 -- the tile has these numbers
 abbrev at_place : ℕ → ℕ → ℕ → TileId → Bool

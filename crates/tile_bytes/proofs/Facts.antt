@@ -15,16 +15,18 @@ use Rattle.height_lattice.specs.HeightFrame.{frame_of}
 use Rattle.bound_spheres.specs.declared.sphere.Sphere.{Sphere}
 use Rattle.bound_spheres.specs.Horizon.{horizon_of}
 use Rattle.bound_spheres.specs.Sphere.{sphere_of}
+use Rattle.bound_spheres.proofs.SphereOf.{wide_box}
 use Rattle.tile_mesh.specs.declared.point.MeshPoint.{MeshPoint}
 use Rattle.tile_mesh.specs.Mesh.{IsMeshAt, Mesh, mesh_of_grid}
 use Rattle.tile_mesh.specs.MeshNumbers.{IsNumbered}
 use Rattle.tile_mesh.proofs.Lengths.{few_triangles}
 use Rattle.tile_mesh.proofs.MeshNumbers.{numbered_law}
+use Rattle.tile_mesh.proofs.VertexHeights.{grid_heights_in_range}
 use Rattle.post_bound.specs.Span.{least_metres, most_metres}
 use Rattle.tile_rule.specs.Tile.{boxes_in, coded_by, coded_mesh, frame_in, header_in, header_of, horizon_in, horizon_point, sphere_in, terrain_in, vertex_box}
 use Rattle.tile_rule.proofs.Coding.{has_spelling}
 use Rattle.tile_rule.proofs.Seeing.{boxes_small, frame_of_grid, some_boxes}
-use Rattle.tile_rule.proofs.Vertices.{HasFrame, heights_small}
+use Rattle.tile_rule.proofs.Vertices.{HasFrame}
 
 pub record Facts (tile : TileId) (m : Mesh) : Type 0 where
   pub numbered : IsNumbered m
@@ -35,16 +37,6 @@ pub record Facts (tile : TileId) (m : Mesh) : Type 0 where
   pub some_boxes : 0 < length (boxes_in tile m)
   pub encodable : IsEncodable (coded_mesh m)
 
-wide_box : (box : EcefBox) → IsBoxWithin 31 box → IsBoxWithin 33 box
-wide_box box h = record {
-  x_lo = omega (arith, h.x_lo);
-  x_hi = omega (arith, h.x_hi);
-  y_lo = omega (arith, h.y_lo);
-  y_hi = omega (arith, h.y_hi);
-  z_lo = omega (arith, h.z_lo);
-  z_hi = omega (arith, h.z_hi);
-}
-
 of_grid : (tile : TileId) (grid : List ℤ) → IsGrid grid → Facts tile (mesh_of_grid grid tile.z)
 of_grid tile grid h =
     let m = mesh_of_grid grid tile.z in
@@ -54,7 +46,7 @@ of_grid tile grid h =
     record {
       numbered = numbered;
       few = few;
-      heights = heights_small grid tile.z h;
+      heights = grid_heights_in_range grid tile.z h;
       frame = frame;
       boxes = All-weaker (IsBoxWithin 31) (IsBoxWithin 33) wide_box (boxes_in tile m) (boxes_small tile grid h);
       some_boxes = some_boxes tile grid;

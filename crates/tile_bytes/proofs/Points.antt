@@ -8,11 +8,7 @@ use Rattle.bound_spheres.specs.declared.sphere.Sphere.{Sphere}
 use Rattle.bound_spheres.specs.Sphere.{IsCentreWithin}
 use Rattle.bound_spheres.specs.Horizon.{IsVectorWithin, scaled_centre}
 use Rattle.tile_rule.specs.Tile.{horizon_point}
-use Rattle.tile_rule.proofs.Headers.{horizon_small}
-
-pub times_small : (n : ℕ) (c : ℤ) → n ≤ 16384 → unsigned_abs c ≤ 2 ^ 21 → unsigned_abs (pos n *ℤ c) < 2 ^ 53
-times_small n (pos k) h l = omega (arith, ints, mul-le-mul h l)
-times_small n (negsuc k) h l = omega (arith, ints, mul-le-mul h l)
+use Rattle.tile_rule.proofs.Headers.{horizon_small, times_small}
 
 -- four times the multiple, times a number of the centre, in 64 bits
 abbrev pub in_bits : ℕ → ℤ → ℤ

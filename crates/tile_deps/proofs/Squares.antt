@@ -13,6 +13,7 @@ use Rattle.std.proofs.lemmas.List.{get_or-map, length-map}
 use Rattle.std.proofs.lemmas.List.Kept.{AllPairs-filter, Contains-dedup, Contains-from_dedup, IsStrictlySortedBy-dedup}
 use Rattle.std.proofs.lemmas.Map.Keys.{Less-from_sorted}
 use Rattle.std.proofs.lemmas.Map.Views.{tells_apart}
+use Rattle.common_laws.proofs.Booleans.{same_from_both}
 use Rattle.terrain_base.specs.SquareOrder.{square_cmp}
 use Rattle.terrain_base.specs.declared.level.CellLevel.TheVariants.{Zero}
 use Rattle.terrain_base.specs.declared.square.Square.{Square}
@@ -22,7 +23,6 @@ use Rattle.terrain_base.proofs.SquareOrder.{squares_exact, squares_total}
 use Rattle.terrain_base.proofs.SquareTexts.{same_square as equal_squares}
 use Rattle.tms_tree.specs.Touch.{Touches, touches_of}
 use Rattle.tms_tree.proofs.Touching.{touches_law}
-use Rattle.availability.proofs.Existing.{same_from_both}
 use Rattle.tile_deps.specs.Laws.{DoNotDescend, SquaresAscend}
 use Rattle.tile_deps.specs.Squares.{same_square, squares_of, touching}
 use Rattle.tile_deps.proofs.Listed.{first_there, later_there, there_cases, none_there, kept_there, there_kept}

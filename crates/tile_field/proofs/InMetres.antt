@@ -4,6 +4,7 @@ use Rattle.std.specs.Prelude.{ℤ, pos, ◌+ℤ◌, ◌-ℤ◌, ◌*ℤ◌, unsi
 use Rattle.std.specs.List.{AllZip, AllByRecursion}
 use Rattle.std.specs.Int.{◌∣◌}
 use Rattle.std.proofs.lemmas.Int.{ints}
+use Rattle.common_laws.proofs.Lists.{map_same}
 use Rattle.terrain_base.specs.Height.{IsHeight}
 use Rattle.terrain_base.specs.declared.indexes.Indexes.{Indexes}
 use Rattle.terrain_base.specs.declared.tile.TileId.{TileId}
@@ -20,7 +21,6 @@ use Rattle.tile_mesh.specs.Plane as plane
 use Rattle.mesh_query.specs.Metres.{AreHeights, IsCorner}
 use Rattle.mesh_query.specs.Field.{MetreMesh, corner_at, tri_at, triangles_of}
 use Rattle.tile_rule.specs.Tile.{frame_in, codes_of, header_in}
-use Rattle.tile_rule.proofs.Seeing.{map_same}
 use Rattle.tile_rule.proofs.Vertices.{HasFrame}
 
 -- the mesh of the rule in metres

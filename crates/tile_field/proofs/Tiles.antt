@@ -27,12 +27,12 @@ use Rattle.tile_mesh.specs.Mesh.{Mesh, mesh_of_grid}
 use Rattle.tile_mesh.specs.Numbering.{ArePoints}
 use Rattle.tile_mesh.proofs.Made.{mesh_covers}
 use Rattle.tile_mesh.proofs.MeshNumbers.{numbered_law}
+use Rattle.tile_mesh.proofs.VertexHeights.{grid_heights_in_range}
 use Rattle.mesh_query.specs.Metres.{IsCorner}
 use Rattle.mesh_query.specs.Field.{AreCorners}
 use Rattle.mesh_query.specs.Answer.{IsFieldOf}
 use Rattle.tile_rule.specs.Tile.{frame_in, codes_of, coded_mesh, header_in, mesh_of_tile, terrain_in}
 use Rattle.tile_rule.proofs.Seeing.{frame_of_grid, is_seen}
-use Rattle.tile_rule.proofs.Vertices.{heights_small}
 use Rattle.tile_field.specs.Laws.{EachTileIsRead}
 use Rattle.tile_field.proofs.Rescaled.{codes_cover}
 use Rattle.tile_field.proofs.InMetres.{field_in, are_corners, are_heights, metres_cover}
@@ -91,7 +91,7 @@ module _ (tile : TileId) (grid : List ℤ) (is : IsGrid grid) where
       (subst (λ (xs : List Codes). AllZip (IsCorner (header_in tile mesh)) xs (field_in mesh).corners) vertices_are
       (are_corners (header_in tile mesh) frame (are_heights tile mesh has) has.frame.divides mesh.points
       (all_to (λ p. IsWithin frame p.metres) mesh.points has.within)
-      (all_to (λ p. IsHeight p.metres) mesh.points (heights_small grid tile.z is))))
+      (all_to (λ p. IsHeight p.metres) mesh.points (grid_heights_in_range grid tile.z is))))
 
   pub field_is : IsFieldOf bytes (field_in mesh)
   field_is = record {

@@ -2,6 +2,7 @@
 use Rattle.std.proofs.Common.{◌≡◌, refl, sym, subst, arith, ℕ, ◌<◌, List}
 use Rattle.std.specs.Prelude.{ℤ, pos, ◌*ℤ◌, ◌≤ℤ◌, ◌<ℤ◌}
 use Rattle.std.proofs.lemmas.Int.{ints}
+use Rattle.common_laws.proofs.Orders.{same_from_neither_below}
 use Rattle.mesh_plane.specs.declared.corner.Tri.{Tri}
 use Rattle.mesh_plane.specs.Plane.{Point}
 use Rattle.mesh_plane.specs.Cover.{Covers}
@@ -20,9 +21,6 @@ use Rattle.tile_query.proofs.OneProfile.{one_height}
 use Rattle.tile_query.proofs.OneRatio.{one_ratio}
 
 -- ---- the triangle
-same_number : (j k : ℕ) → (j < k → ⊥) → (k < j → ⊥) → j ≡ k
-same_number j k f g = grind (arith, f, g)
-
 no_tri : Tri
 no_tri = record {
   a = record { u = pos 0; v = pos 0; h = pos 0 };
@@ -32,7 +30,7 @@ no_tri = record {
 
 one_holder : (ts : List Tri) (s x y : ℤ) (j k : ℕ) → IsHolder ts s x y j → IsHolder ts s x y k → j ≡ k
 one_holder ts s x y j k h i =
-    same_number j k (λ l. i.least j no_tri l (h.holds no_tri)) (λ l. h.least k no_tri l (i.holds no_tri))
+    same_from_neither_below j k (λ l. i.least j no_tri l (h.holds no_tri)) (λ l. h.least k no_tri l (i.holds no_tri))
 
 -- ---- sight
 not_below : (x y : ℤ) → x ≤ℤ y → y <ℤ x → ⊥

@@ -26,7 +26,7 @@ use Rattle.float_bits.proofs.Patterns.{bits64_is, bits32_is, width64, width32}
 pub least_hidden : (sphere : Sphere) (boxes : List EcefBox) (m : ℕ) → horizon_of sphere boxes ≡ Some m → IsLeastHidden sphere boxes m
 least_hidden sphere boxes m e = subst (IsHorizon sphere boxes) e (horizon_is sphere boxes)
 
-times_small : (n : ℕ) (c : ℤ) → n ≤ 16384 → unsigned_abs c ≤ 2 ^ 21 → unsigned_abs (pos n *ℤ c) < 2 ^ 53
+pub times_small : (n : ℕ) (c : ℤ) → n ≤ 16384 → unsigned_abs c ≤ 2 ^ 21 → unsigned_abs (pos n *ℤ c) < 2 ^ 53
 times_small n (pos k) h l = omega (arith, ints, mul-le-mul h l)
 times_small n (negsuc k) h l = omega (arith, ints, mul-le-mul h l)
 

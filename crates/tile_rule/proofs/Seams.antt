@@ -2,6 +2,7 @@
 use Rattle.std.proofs.Common.{◌≡◌, ℕ, zero, suc, ◌+◌, ◌<◌, ◌≤◌, arith, refl, sym, ap, ◌∙◌, List, [], ◌∷◌, map}
 use Rattle.std.specs.Prelude.{ℤ, pos}
 use Rattle.std.specs.List.{range_with_len}
+use Rattle.common_laws.proofs.Lists.{map_same}
 use Rattle.terrain_base.specs.declared.tile.TileId.{TileId}
 use Rattle.terrain_base.specs.Grid.{IsGrid, line_position, height_in}
 use Rattle.mesh_plane.specs.declared.corner.Corner.{Corner}
@@ -18,7 +19,7 @@ use Rattle.tile_mesh.proofs.Seams.{seam_law}
 use Rattle.tile_rule.specs.Seams.{MeetEast, MeetNorth}
 use Rattle.tile_rule.specs.Seen.{Vertex, corner_at, edge_corners}
 use Rattle.tile_rule.specs.Tile.{coded_mesh, frame_in, terrain_in, header_in}
-use Rattle.tile_rule.proofs.Seeing.{is_seen, map_same, one_sight, same_corner, vertices_in}
+use Rattle.tile_rule.proofs.Seeing.{is_seen, one_sight, same_corner, vertices_in}
 
 -- ---- the heights of two edges
 map_range : {A : Type 0} (f g : ℕ → A) (a n : ℕ) → ((i : ℕ) → i < a + n → f i ≡ g i) → map f (range_with_len a n) ≡ map g (range_with_len a n)

@@ -5,6 +5,7 @@ use Rattle.std.specs.List.{AllByRecursion}
 use Rattle.std.proofs.lemmas.Int.{ints}
 use Rattle.std.proofs.lemmas.List.{length-map}
 use Rattle.std.proofs.lemmas.List.Elements.{All-map, recursion_from_All}
+use Rattle.common_laws.proofs.Lists.{map_same}
 use Rattle.terrain_base.specs.declared.tile.TileId.{TileId}
 use Rattle.terrain_base.specs.declared.indexes.Indexes.{Indexes}
 use Rattle.terrain_base.specs.Grid.{IsGrid}
@@ -25,6 +26,7 @@ use Rattle.tile_mesh.specs.Mesh.{Mesh, mesh_of_grid}
 use Rattle.tile_mesh.specs.Plane as plane
 use Rattle.tile_mesh.proofs.Lengths.{few_triangles}
 use Rattle.tile_mesh.proofs.MeshNumbers.{numbered_law}
+use Rattle.tile_mesh.proofs.VertexHeights.{grid_heights_in_range}
 use Rattle.float_bits.specs.Binary32.{bits32_of}
 use Rattle.height_lattice.specs.HeightCode.{code_of}
 use Rattle.tile_rule.specs.Tile.{frame_in, codes_of, coded_mesh, vertex_box, boxes_in, sphere_in, header_in, terrain_in}
@@ -36,7 +38,7 @@ use Rattle.tile_rule.proofs.Coding.{has_spelling}
 use Rattle.height_lattice.proofs.Frames.{code_of_is}
 use Rattle.tile_rule.proofs.Headers.{header_in_is}
 use Rattle.float_bits.proofs.Patterns.{bits32_is}
-use Rattle.tile_rule.proofs.Vertices.{HasFrame, has_frame, heights_small}
+use Rattle.tile_rule.proofs.Vertices.{HasFrame, has_frame}
 
 -- ---- what is seen
 abbrev pub vertex_of : HeightFrame → MeshPoint → Vertex
@@ -46,7 +48,7 @@ abbrev pub vertices_in : Mesh → List Vertex
 vertices_in m = map (vertex_of (frame_in m)) m.points
 
 pub frame_of_grid : (grid : List ℤ) (z : ℕ) → IsGrid grid → HasFrame (mesh_of_grid grid z)
-frame_of_grid grid z h = has_frame (mesh_of_grid grid z) (numbered_law grid z).some (heights_small grid z h)
+frame_of_grid grid z h = has_frame (mesh_of_grid grid z) (numbered_law grid z).some (grid_heights_in_range grid z h)
 
 pub boxes_small : (tile : TileId) (grid : List ℤ) → IsGrid grid → All (IsBoxWithin 31) (boxes_in tile (mesh_of_grid grid tile.z))
 boxes_small tile grid h =
@@ -54,7 +56,7 @@ boxes_small tile grid h =
     All-map (IsBoxWithin 31) (vertex_box tile) m.points (λ k d l.
     let p = slice_index_or m.points k d in
     let g = (numbered_law grid tile.z).on_grid k d l in
-    let r = heights_small grid tile.z h k d l in
+    let r = grid_heights_in_range grid tile.z h k d l in
     box_small (place_of tile p.i p.j) p.metres (place_fits tile p.i p.j g.column g.row) (omega (arith, ints, r.above, r.below)))
 
 pub some_boxes : (tile : TileId) (grid : List ℤ) → 0 < length (boxes_in tile (mesh_of_grid grid tile.z))
@@ -172,10 +174,6 @@ same_corner frame (p ∷ ps) (suc n) = same_corner frame ps n
 
 same_tri : (frame : HeightFrame) (ps : List MeshPoint) (t : Indexes) → triangle_of (map (vertex_of frame) ps) t ≡ plane.triangle_of ps t
 same_tri frame ps t = rw (same_corner frame ps t.a, same_corner frame ps t.b, same_corner frame ps t.c) refl
-
-pub map_same : {A B : Type 0} (f g : A → B) → ((x : A) → f x ≡ g x) → (xs : List A) → map f xs ≡ map g xs
-map_same f g h [] = refl
-map_same f g h (x ∷ xs) = ap (λ y. y ∷ map f xs) (h x) ∙ ap (λ ys. g x ∷ ys) (map_same f g h xs)
 
 pub same_triangles : (m : Mesh) → triangles_of (coded_mesh m) (vertices_in m) ≡ plane.triangles_in m
 unfolding coded_mesh

@@ -17,9 +17,6 @@ use Rattle.tile_rule.specs.Tile.{frame_in}
 use Rattle.height_lattice.proofs.Frames.{frame_is}
 
 -- ---- heights
-pub heights_small : (grid : List ℤ) (z : ℕ) → IsGrid grid → All (λ p. IsHeight p.metres) (mesh_of_grid grid z).points
-heights_small grid z h = heights_in_range z (mesh_of_grid grid z) (record { grid = grid; in_range = h; mesh = refl })
-
 -- ---- the least and the greatest
 lows : (a : ℤ) (ps : List MeshPoint) → let n = fold int_min a (map (λ p. p.metres) ps) in (n ≤ℤ a) × All (λ p. n ≤ℤ p.metres) ps
 lows a [] = (omega (arith, ints), All-nil (λ p. a ≤ℤ p.metres))
