@@ -1,7 +1,7 @@
 ghost use Rattle.terrain_base.specs.Height.{IsHeight};
 
 use super::*;
-use terrain_base::{Grid, Indexes};
+use terrain_base::{Grid, Indexes, Side};
 
 const FLAT_POINTS: [(u8, u8); 9] = [
     (0, 0),
