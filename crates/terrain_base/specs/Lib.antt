@@ -15,6 +15,7 @@ pub mod Name
 pub mod NameLaws
 pub mod NameParts
 pub mod Overwrite
+pub mod Reading
 pub mod Run
 pub mod Sink
 pub mod SquareOrder

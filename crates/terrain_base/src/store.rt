@@ -3,9 +3,10 @@ ghost use Rattle.std.specs.Prelude.{◌≡◌, ℕ, List, Option, IfOk, IfSome};
 ghost use Rattle.std.specs.FinMap as map;
 ghost use Rattle.terrain_base.specs.Step.{Files, Write, Erase, Does, items_of};
 ghost use Rattle.terrain_base.specs.Cause.{HasCause};
+ghost use Rattle.terrain_base.specs.Reading.{GetsBy};
 ghost use Rattle.terrain_base.specs.declared.store.Change.{Change};
 
-use crate::{DeviceFault, Name};
+use crate::{DeviceFault, Name, ReadBy, Reading};
 
 /// A change of a store, without the bytes.
 #[derive(Clone, Copy, Debug, PartialEq, Eq)]
@@ -55,4 +56,26 @@ pub trait Store {
         ensures same { holds self.new ≡ holds self.old }
         ensures quiet { log self.new ≡ log self.old }
         ensures cause { HasCause (faults self.old) (faults self.new) result };
+
+    /// What the reading finds in the bytes held under the name, or all of them. `None` exactly where it is not held.
+    /// Changes nothing held and adds nothing to the log, whatever it answers.
+    fn get_by<G: Reading>(
+        &mut self,
+        name: &Name,
+        reading: &G,
+    ) -> Result<Option<ReadBy<G::Found, Vec<u8>>>, DeviceFault>
+        ensures found { IfOk result (λ found. IfSome (holds self.old)
+            (λ files. GetsBy (G.tells reading.now) found (map.get files name.now))) }
+        ensures same { holds self.new ≡ holds self.old }
+        ensures quiet { log self.new ≡ log self.old }
+        ensures cause { HasCause (faults self.old) (faults self.new) result }
+    {
+        let Some(bytes) = self.get(name)? else {
+            return Ok(None);
+        };
+        if let Ok(Some(found)) = reading.find(&mut bytes.as_slice()) {
+            return Ok(Some(ReadBy::Found(found)));
+        }
+        Ok(Some(ReadBy::Whole(bytes)))
+    }
 }

@@ -1,4 +1,22 @@
+ghost use Rattle.std.specs.Prelude.{◌≡◌, slice_index};
+
 use super::*;
+use std::io::{self, Read};
+
+// Looks for the first byte of a file.
+struct FirstByte;
+
+impl Reading for FirstByte {
+    type Found = u8;
+
+    ghost tells = { λ _ bytes first. slice_index bytes 0 ≡ first };
+
+    fn find<R: Read>(&self, reader: &mut R) -> io::Result<Option<u8>> {
+        let mut first = [0];
+        reader.read_exact(&mut first)?;
+        Ok(Some(first[0]))
+    }
+}
 
 #[test]
 fn names_of_all_kinds_are_read_back(rt: HostRuntime) {
@@ -73,6 +91,27 @@ fn a_store_in_memory_keeps_files(rt: HostRuntime) {
     store.delete(&Name::stage()).expect(&rt, "memory");
     assert!(rt; store.get(&Name::stage()).expect(&rt, "memory").is_none());
     assert!(rt; store.log().len() == 4);
+}
+
+#[test]
+fn a_reading_finds_what_it_looks_for_or_all_is_read(rt: HostRuntime) {
+    let mut library = SureLibrary::new(rt.alloc());
+    library.hold("two", b"xy").expect(&rt, "memory");
+    library.hold("empty", b"").expect(&rt, "memory");
+    let found = library.fetch_by("two", 2, &FirstByte);
+    assert!(rt; matches!(found, Ok(ReadBy::Found(b'x'))));
+    let whole = library.fetch_by("empty", 2, &FirstByte);
+    assert!(rt; matches!(whole, Ok(ReadBy::Whole(Fetched::Bytes(_)))));
+    let longer = library.fetch_by("two", 1, &FirstByte);
+    assert!(rt; matches!(longer, Ok(ReadBy::Whole(Fetched::TooLong))));
+    let mut store = SureStore::new(rt.alloc());
+    store.put(&Name::stage(), b"xy").expect(&rt, "memory");
+    store.put(&Name::layer(), b"").expect(&rt, "memory");
+    let found = store.get_by(&Name::stage(), &FirstByte);
+    assert!(rt; matches!(found, Ok(Some(ReadBy::Found(b'x')))));
+    let whole = store.get_by(&Name::layer(), &FirstByte);
+    assert!(rt; matches!(whole, Ok(Some(ReadBy::Whole(_)))));
+    assert!(rt; matches!(store.get_by(&Name::manifest(), &FirstByte), Ok(None)));
 }
 
 #[test]
