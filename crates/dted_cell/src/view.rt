@@ -20,6 +20,7 @@ ghost use Rattle.dted_cell.specs.Cell.{
   BoundsPosts,
 };
 ghost use Rattle.dted_cell.specs.Elevation.{IsPost};
+ghost use Rattle.dted_cell.specs.Facts.{AreFacts};
 ghost use Rattle.dted_cell.specs.Counts.{IsCounted};
 ghost use Rattle.dted_cell.specs.Good.{IsGood};
 ghost use Rattle.dted_cell.specs.Refusal.{refusal_of};
@@ -28,6 +29,7 @@ use crate::CellRefusal;
 use crate::cell::read_cell;
 use crate::counts::Counts;
 use crate::elevation::post;
+use crate::facts::CellFacts;
 use crate::field::word;
 use crate::header::Header;
 use crate::lead::behind;
@@ -173,5 +175,18 @@ impl<'a> CellView<'a> {
         ensures value { result ≡ extremes_in self.now }
     {
         self.counts.extremes
+    }
+
+    /// The cell in short.
+    #[tactic(auto, using(crate::proofs::Views::view_accepted, crate::proofs::Views::view_square, crate::proofs::Views::view_level, crate::proofs::Views::view_voids, crate::proofs::Views::view_extremes))]
+    pub fn facts(&self) -> CellFacts
+        ensures { AreFacts self.now result }
+    {
+        CellFacts {
+            square: self.header.square,
+            level: self.header.level,
+            voids: self.counts.voids,
+            extremes: self.counts.extremes,
+        }
     }
 }
