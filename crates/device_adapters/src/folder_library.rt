@@ -2,9 +2,9 @@
 ghost use Rattle.std.specs.Prelude.{◌≡◌, None};
 
 use crate::fault::{counted, is_absent};
-use crate::reading::read;
+use crate::reading::{find, read};
 use std::rt::Files;
-use terrain_base::{DeviceFault, Fetched, Library};
+use terrain_base::{DeviceFault, Fetched, Library, ReadBy, Reading};
 
 /// Real files, by their paths. It tells nothing of what it holds, and counts its faults: a file that is there and can't
 /// be read, such as a folder. A path that leads to nothing, or through a plain file, is of no file.
@@ -33,6 +33,19 @@ impl<'a, R: Files + AllocGlobal> Library for FolderLibrary<'a, R> {
             Ok(fetched) => Ok(fetched),
             Err(error) if is_absent(&error) => Ok(Fetched::Absent),
             Err(error) => Err(counted(&mut self.faults, &error)),
+        }
+    }
+
+    // The file is read whole only where the reading finds nothing, and so all that goes wrong is seen then.
+    fn fetch_by<G: Reading>(
+        &mut self,
+        name: &str,
+        limit: usize,
+        reading: &G,
+    ) -> Result<ReadBy<G::Found, Fetched>, DeviceFault> {
+        match find(self.rt, name, limit, reading) {
+            Ok(Some(found)) => Ok(ReadBy::Found(found)),
+            _ => Ok(ReadBy::Whole(self.fetch(name, limit)?)),
         }
     }
 }

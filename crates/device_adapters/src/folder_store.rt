@@ -3,11 +3,11 @@ ghost use Rattle.std.specs.Prelude.{◌≡◌, None};
 
 use crate::fault::{counted, is_absent};
 use crate::listing::names_in;
-use crate::reading::read;
+use crate::reading::{find, read};
 use std::io::{self, ErrorKind};
 use std::rt::Files;
 use std::{fs, str};
-use terrain_base::{DeviceFault, Fetched, Name, Store};
+use terrain_base::{DeviceFault, Fetched, Name, ReadBy, Reading, Store};
 
 // The most bytes of a file that are read; a longer one is a fault.
 const FILE_LIMIT: usize = 134_217_728;
@@ -57,6 +57,17 @@ fn get_file<R: Files + AllocGlobal>(
         Err(error) if is_absent(&error) => Ok(None),
         Err(error) => Err(error),
     }
+}
+
+// What a reading finds in the file of a name.
+fn find_in_file<R: Files + AllocGlobal, G: Reading>(
+    rt: &R,
+    folder: &str,
+    name: &Name,
+    reading: &G,
+) -> io::Result<Option<G::Found>> {
+    let path = path_of(rt, folder, name)?;
+    find(rt, &path, FILE_LIMIT, reading)
 }
 
 // Writes a file, and makes its folder where there is none.
@@ -133,6 +144,21 @@ impl<'a, R: Files + AllocGlobal + Clone + Drop> Store for FolderStore<'a, R> {
         match names_in(self.rt, self.folder) {
             Ok(names) => Ok(names),
             Err(error) => Err(counted(&mut self.faults, &error)),
+        }
+    }
+
+    // The file is read whole only where the reading finds nothing, and so all that goes wrong is seen then.
+    fn get_by<G: Reading>(
+        &mut self,
+        name: &Name,
+        reading: &G,
+    ) -> Result<Option<ReadBy<G::Found, Vec<u8>>>, DeviceFault> {
+        if let Ok(Some(found)) = find_in_file(self.rt, self.folder, name, reading) {
+            return Ok(Some(ReadBy::Found(found)));
+        }
+        match self.get(name)? {
+            Some(bytes) => Ok(Some(ReadBy::Whole(bytes))),
+            None => Ok(None),
         }
     }
 }

@@ -3,7 +3,7 @@
 use std::fs::{self, OpenFile};
 use std::io::{self, Read};
 use std::rt::Files;
-use terrain_base::Fetched;
+use terrain_base::{Fetched, Reading};
 
 // How many bytes a file is said to have. Of what tells none, such as a pipe, it is 0.
 fn said_length<F: OpenFile>(file: &F) -> u64 {
@@ -30,4 +30,20 @@ pub(crate) fn read<R: Files + AllocGlobal>(
     } else {
         Fetched::Bytes(bytes)
     })
+}
+
+// What a reading finds in a file of at most so many bytes. A longer file is not looked at, nor is one that tells no
+// length: of what comes through a pipe nothing would be left to be read whole.
+pub(crate) fn find<R: Files + AllocGlobal, G: Reading>(
+    rt: &R,
+    path: &str,
+    limit: usize,
+    reading: &G,
+) -> io::Result<Option<G::Found>> {
+    let mut file = fs::open(rt, path)?;
+    let length = said_length(&file);
+    if length == 0 || length > limit as u64 {
+        return Ok(None);
+    }
+    reading.find(&mut file)
 }

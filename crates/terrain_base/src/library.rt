@@ -5,6 +5,7 @@ ghost use Rattle.terrain_base.specs.Cause.{HasCause};
 ghost use Rattle.terrain_base.specs.Library.{LibraryFiles, Fetches};
 ghost use Rattle.terrain_base.specs.Reading.{FetchesBy};
 
+use crate::reading::find_in;
 use crate::{DeviceFault, ReadBy, Reading};
 
 /// What a fetch found.
@@ -49,7 +50,7 @@ pub trait Library {
     {
         let fetched = self.fetch(name, limit)?;
         if let Fetched::Bytes(bytes) = &fetched {
-            if let Ok(Some(found)) = reading.find(&mut bytes.as_slice()) {
+            if let Some(found) = find_in(reading, bytes) {
                 return Ok(ReadBy::Found(found));
             }
         }

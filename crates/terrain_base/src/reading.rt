@@ -1,5 +1,6 @@
 // What is looked for in the bytes of a file.
 ghost use Rattle.std.specs.Prelude.{List, ℕ, IfOk, IfSome};
+ghost use Rattle.terrain_base.specs.Reading.{IsFoundIn};
 
 use std::io::{self, Read};
 
@@ -23,4 +24,15 @@ pub trait Reading {
 pub enum ReadBy<F, W> {
     Found(F),
     Whole(W),
+}
+
+// What the reading finds in bytes that are at hand.
+pub(crate) fn find_in<G: Reading>(reading: &G, bytes: &[u8]) -> Option<G::Found>
+    ensures { IfSome result (λ found. IsFoundIn (G.tells reading.now) found bytes.now) }
+{
+    let mut rest = bytes;
+    match reading.find(&mut rest) {
+        Ok(found) => found,
+        Err(_) => None,
+    }
 }

@@ -6,6 +6,7 @@ ghost use Rattle.terrain_base.specs.Cause.{HasCause};
 ghost use Rattle.terrain_base.specs.Reading.{GetsBy};
 ghost use Rattle.terrain_base.specs.declared.store.Change.{Change};
 
+use crate::reading::find_in;
 use crate::{DeviceFault, Name, ReadBy, Reading};
 
 /// A change of a store, without the bytes.
@@ -73,7 +74,7 @@ pub trait Store {
         let Some(bytes) = self.get(name)? else {
             return Ok(None);
         };
-        if let Ok(Some(found)) = reading.find(&mut bytes.as_slice()) {
+        if let Some(found) = find_in(reading, &bytes) {
             return Ok(Some(ReadBy::Found(found)));
         }
         Ok(Some(ReadBy::Whole(bytes)))
