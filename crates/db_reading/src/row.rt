@@ -1,6 +1,7 @@
 // The cell of a row.
-ghost use Rattle.std.specs.Prelude.{◌≡◌, Some, IfOk, IfErr, IsTrue};
+ghost use Rattle.std.specs.Prelude.{◌≡◌, ◌<◌, ℕ, List, slice_index, Some, IfOk, IfErr, IsTrue};
 ghost use Rattle.terrain_base.specs.Step.{Files};
+ghost use Rattle.dted_cell.specs.Facts.{AreFacts};
 ghost use Rattle.dted_cell.specs.Trouble.{ShowsAt, name_of};
 ghost use Rattle.cell_mosaic.specs.Cells.{IsSoundCell};
 ghost use Rattle.cell_mosaic.specs.Summaries.{summary_of};
@@ -11,8 +12,9 @@ ghost use Rattle.db_reading.specs.ReadRow.{IsRead, IsRowTrouble};
 
 use database::EngineAnswer;
 use db_manifest::ManifestState;
-use dted_cell::{CellTrouble, CellView};
-use terrain_base::{CellKey, Name, Square, Store, Summary};
+use dted_cell::{CellFacts, CellTrouble, CellView, FactsReading};
+use std::alloc::Global;
+use terrain_base::{CellKey, Name, ReadBy, Square, Store, Summary};
 
 // The name that the cell of a row is read from: the stage for one that is being put.
 fn kept_name(mark: ManifestState, key: CellKey) -> Name
@@ -40,20 +42,18 @@ fn is_square(a: Square, b: Square) -> bool
     a.lat == b.lat && a.lon == b.lon
 }
 
-// The cell in short, where the bytes under the name are a cell of the key.
-fn judge(key: CellKey, name: Name, bytes: &[u8]) -> Result<Summary, CellTrouble>
-    ensures sound { IfOk result (λ cell. IsSoundCell key bytes.now) }
-    ensures value { IfOk result (λ cell. cell ≡ summary_of key bytes.now) }
+// The cell in short, where it is one of the key.
+fn judge_facts(key: CellKey, name: Name, facts: &CellFacts) -> Result<Summary, CellTrouble>
+    ensures sound { (bytes : List ℕ) → ((k : ℕ) → slice_index bytes k < 256) → AreFacts bytes facts.now
+        → IfOk result (λ cell. IsSoundCell key bytes) }
+    ensures value { (bytes : List ℕ) → AreFacts bytes facts.now → IfOk result (λ cell. cell ≡ summary_of key bytes) }
+    ensures key { IfOk result (λ cell. row_key cell ≡ key) }
     ensures name { IfErr result (λ trouble. name_of trouble ≡ name) }
-    ensures shown { IfErr result (ShowsAt key (Some bytes.now)) }
+    ensures shown { (bytes : List ℕ) → AreFacts bytes facts.now → IfErr result (ShowsAt key (Some bytes)) }
 {
-    let view = match CellView::read(bytes) {
-        Ok(view) => view,
-        Err(refusal) => return Err(CellTrouble::Bad { name, refusal }),
-    };
     let found = CellKey {
-        square: view.square(),
-        level: view.level(),
+        square: facts.square,
+        level: facts.level,
     };
     if !is_square(found.square, key.square) {
         return Err(CellTrouble::Elsewhere {
@@ -71,12 +71,27 @@ fn judge(key: CellKey, name: Name, bytes: &[u8]) -> Result<Summary, CellTrouble>
     Ok(Summary {
         square: key.square,
         level: key.level,
-        extremes: view.extremes(),
+        extremes: facts.extremes,
     })
 }
 
-// The cell of a row in short. It is fetched once, and dropped.
+// The cell in short, where the bytes under the name are a cell of the key.
+fn judge(key: CellKey, name: Name, bytes: &[u8]) -> Result<Summary, CellTrouble>
+    ensures sound { IfOk result (λ cell. IsSoundCell key bytes.now) }
+    ensures value { IfOk result (λ cell. cell ≡ summary_of key bytes.now) }
+    ensures key { IfOk result (λ cell. row_key cell ≡ key) }
+    ensures name { IfErr result (λ trouble. name_of trouble ≡ name) }
+    ensures shown { IfErr result (ShowsAt key (Some bytes.now)) }
+{
+    match CellView::read(bytes) {
+        Ok(view) => judge_facts(key, name, &view.facts()),
+        Err(refusal) => Err(CellTrouble::Bad { name, refusal }),
+    }
+}
+
+// The cell of a row in short. It is fetched once, and held whole only where it is refused.
 pub(crate) fn read_row<S: Store>(
+    alloc: Global,
     store: &mut S,
     mark: ManifestState,
     key: CellKey,
@@ -91,11 +106,13 @@ pub(crate) fn read_row<S: Store>(
     ensures cause { HasCause (S.faults store.old) (S.faults store.new) result }
 {
     let name = kept_name(mark, key);
-    match store.get(&name)? {
-        Some(bytes) => match judge(key, name, &bytes) {
-            Ok(cell) => Ok(cell),
-            Err(trouble) => Err(EngineAnswer::Trouble(trouble)),
-        },
-        None => Err(EngineAnswer::Trouble(CellTrouble::Lost { name })),
+    let judged = match store.get_by(&name, &FactsReading::new(alloc))? {
+        Some(ReadBy::Found(facts)) => judge_facts(key, name, &facts),
+        Some(ReadBy::Whole(bytes)) => judge(key, name, &bytes),
+        None => Err(CellTrouble::Lost { name }),
+    };
+    match judged {
+        Ok(cell) => Ok(cell),
+        Err(trouble) => Err(EngineAnswer::Trouble(trouble)),
     }
 }
