@@ -11,7 +11,7 @@ use Rattle.quad_split.specs.Fits.{follows, fits_at}
 use Rattle.quad_split.specs.Window.{sides_follow, corner_at, fan_at, grid_point}
 use Rattle.quad_split.specs.declared.triangle.GridPoint.{GridPoint}
 use Rattle.quad_split.specs.declared.fan.Fan.{Fan}
-use Rattle.quad_split.specs.declared.fan.Side.{Side}
+use Rattle.quad_split.specs.declared.fan.FanSide.{FanSide}
 use Rattle.quad_split.proofs.NodeLines.{middle_line, last_line}
 
 point_same : (i j k l : ℕ) → i ≡ k → j ≡ l → grid_point i j ≡ grid_point k l
@@ -19,10 +19,10 @@ point_same i j k l e f = rw (e, f)
 
 side_same : (c a m b d e n f : GridPoint) → c ≡ d → a ≡ e → m ≡ n → b ≡ f
     → record { centre = c; a = a; middle = m; b = b }
-    ≡ (let s : Side = record { centre = d; a = e; middle = n; b = f } in s)
+    ≡ (let s : FanSide = record { centre = d; a = e; middle = n; b = f } in s)
 side_same c a m b d e n f h i j k = rw (h, i, j, k)
 
-fan_same : (s e n w s' e' n' w' : Side) → s ≡ s' → e ≡ e' → n ≡ n' → w ≡ w'
+fan_same : (s e n w s' e' n' w' : FanSide) → s ≡ s' → e ≡ e' → n ≡ n' → w ≡ w'
     → record { south = s; east = e; north = n; west = w }
     ≡ (let f : Fan = record { south = s'; east = e'; north = n'; west = w' } in f)
 fan_same s e n w s' e' n' w' a b c d = rw (a, b, c, d)
@@ -55,7 +55,7 @@ pub sides_fit : (grid : List ℤ) (tol k x y : ℕ) → sides_follow grid tol (f
 unfolding fits_at
 sides_fit grid tol k x y =
     let fan = fan_at k x y in
-    let ts = λ (s : Side). side_triangles (corner_at grid s.centre) (corner_at grid s.a) (corner_at grid s.middle) (corner_at grid s.b) in
+    let ts = λ (s : FanSide). side_triangles (corner_at grid s.centre) (corner_at grid s.a) (corner_at grid s.middle) (corner_at grid s.b) in
     joined (ts fan.south) (ts fan.east) (ts fan.north) (ts fan.west)
   where
     joined : (a b c d : List (Triple Corner))

@@ -15,7 +15,7 @@ use Rattle.quad_split.specs.Fits.{HoldsPoint, IsNearPlane, Follows, follows, fol
 use Rattle.quad_split.specs.Window.{IsInWindow, IsSideOf, AreSidesOf, corner_at, tri_at, fan_at, grid_point, side_between, middle_follows, middles_follow, side_follows, sides_follow}
 use Rattle.quad_split.specs.declared.triangle.GridPoint.{GridPoint}
 use Rattle.quad_split.specs.declared.triangle.Window.{Window}
-use Rattle.quad_split.specs.declared.fan.Side.{Side}
+use Rattle.quad_split.specs.declared.fan.FanSide.{FanSide}
 use Rattle.quad_split.proofs.FanTriangles.{place, up}
 use Rattle.quad_split.proofs.Meanings.{same_value, at_test, all_test}
 use Rattle.quad_split.proofs.Windows.{is_within}
@@ -181,7 +181,7 @@ module _ (heights : List ℤ) (tol : ℕ) where
 
   -- a side whose triangles hold no grid points but the node's centre, the side's ends and its midpoint: `r` is a
   -- point beyond the line from the centre to `a`, and `s` one beyond that from `b` to the centre
-  module _ (side : Side) (good : IsSideOf heights side) (r s : GridPoint)
+  module _ (side : FanSide) (good : IsSideOf heights side) (r s : GridPoint)
       (r_out : pos 0 ≤ℤ side_of (corner_at heights side.centre) (corner_at heights side.a) (pos 1) (place r.i) (place r.j) → ⊥)
       (s_out : pos 0 ≤ℤ side_of (corner_at heights side.b) (corner_at heights side.centre) (pos 1) (place s.i) (place s.j) → ⊥)
       (in_first : (P : ℕ → ℕ → Type 0) → P side.centre.i side.centre.j → P side.a.i side.a.j
@@ -253,7 +253,7 @@ module _ (heights : List ℤ) (tol W X E S Y N : ℕ) (x : X ≡ W + 1) (e : E �
   abbrev at : ℕ → ℕ → Corner
   at i j = corner_at heights (grid_point i j)
 
-  abbrev south_side : Side
+  abbrev south_side : FanSide
   south_side = side_between (grid_point X Y) (grid_point W S) (grid_point X S) (grid_point E S)
 
   pub south_by_middle : IsSideOf heights south_side
@@ -266,7 +266,7 @@ module _ (heights : List ℤ) (tol W X E S Y N : ℕ) (x : X ≡ W + 1) (e : E �
       (λ P c m b s. on_square heights P X E S Y e y m b c s north_west south_west south_east good.second)
       (λ P c a m b r s. on_row heights P W X E S Y x e y a m b r c s (Equal, true) (Less, false) (Greater, false) good.whole)
 
-  abbrev east_side : Side
+  abbrev east_side : FanSide
   east_side = side_between (grid_point X Y) (grid_point E S) (grid_point E Y) (grid_point E N)
 
   pub east_by_middle : IsSideOf heights east_side
@@ -279,7 +279,7 @@ module _ (heights : List ℤ) (tol W X E S Y N : ℕ) (x : X ≡ W + 1) (e : E �
       (λ P c m b s. on_square heights P X E Y N e n c m s b south_west south_east north_east good.second)
       (λ P c a m b r s. on_column heights P X E S Y N e y n r a c m s b (false, Equal) (true, Less) (true, Greater) good.whole)
 
-  abbrev north_side : Side
+  abbrev north_side : FanSide
   north_side = side_between (grid_point X Y) (grid_point E N) (grid_point X N) (grid_point W N)
 
   pub north_by_middle : IsSideOf heights north_side
@@ -292,7 +292,7 @@ module _ (heights : List ℤ) (tol W X E S Y N : ℕ) (x : X ≡ W + 1) (e : E �
       (λ P c m b s. on_square heights P W X Y N x n s c b m south_east north_east north_west good.second)
       (λ P c a m b r s. on_row heights P W X E Y N x e n s c r b m a (Equal, false) (Greater, true) (Less, true) good.whole)
 
-  abbrev west_side : Side
+  abbrev west_side : FanSide
   west_side = side_between (grid_point X Y) (grid_point W N) (grid_point W Y) (grid_point W S)
 
   pub west_by_middle : IsSideOf heights west_side

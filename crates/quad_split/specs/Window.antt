@@ -11,7 +11,7 @@ use Rattle.quad_split.specs.Fan.{grid_corner, side_triangles}
 use Rattle.quad_split.specs.Fits.{HoldsPoint, follows, follows_at}
 use Rattle.quad_split.specs.declared.triangle.GridPoint.{GridPoint}
 use Rattle.quad_split.specs.declared.triangle.Window.{Window}
-use Rattle.quad_split.specs.declared.fan.Side.{Side}
+use Rattle.quad_split.specs.declared.fan.FanSide.{FanSide}
 use Rattle.quad_split.specs.declared.fan.Fan.{Fan}
 
 -- ---- grid points and windows
@@ -59,7 +59,7 @@ pub record IsTriOf (window : Window) (t : Tri) : Type 0 where
 
 -- ---- the sides of a node
 -- the points of the side lie on the grid, and its three triangles are counter-clockwise
-pub record IsSideOf (heights : List ℤ) (side : Side) : Type 0 where
+pub record IsSideOf (heights : List ℤ) (side : FanSide) : Type 0 where
   pub centre : IsOnGrid side.centre
   pub a : IsOnGrid side.a
   pub middle : IsOnGrid side.middle
@@ -76,7 +76,7 @@ pub record AreSidesOf (heights : List ℤ) (fan : Fan) : Type 0 where
   pub west : IsSideOf heights fan.west
 
 -- the three triangles of a side follow the heights, and those of all four sides
-abbrev pub side_follows : List ℤ → ℕ → Side → Bool
+abbrev pub side_follows : List ℤ → ℕ → FanSide → Bool
 side_follows grid tol side =
     list_all (λ t. follows grid tol (tri_of t))
     (side_triangles (corner_at grid side.centre) (corner_at grid side.a) (corner_at grid side.middle)
@@ -88,7 +88,7 @@ sides_follow grid tol fan =
     && (side_follows grid tol fan.east && (side_follows grid tol fan.north && side_follows grid tol fan.west))
 
 -- the triangle of a whole side follows the height at the side's midpoint, and those of all four sides
-abbrev pub middle_follows : List ℤ → ℕ → Side → Bool
+abbrev pub middle_follows : List ℤ → ℕ → FanSide → Bool
 middle_follows grid tol side =
     follows_at grid tol (tri_at grid side.centre side.a side.b) side.middle.i side.middle.j
 
@@ -101,7 +101,7 @@ abbrev pub grid_point : ℕ → ℕ → GridPoint
 grid_point i j = record { i = i; j = j }
 
 -- a side from a to b with its midpoint, and the centre of its node
-abbrev pub side_between : GridPoint → GridPoint → GridPoint → GridPoint → Side
+abbrev pub side_between : GridPoint → GridPoint → GridPoint → GridPoint → FanSide
 side_between centre a middle b = record { centre = centre; a = a; middle = middle; b = b }
 
 -- the sides of the node (x, y) of level k + 1

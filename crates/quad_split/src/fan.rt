@@ -10,7 +10,7 @@ use terrain_base::Grid;
 
 /// The centre of a node, a side from `a` to `b`, and its midpoint.
 #[derive(Clone, Copy, Debug, PartialEq, Eq)]
-pub(crate) struct Side {
+pub(crate) struct FanSide {
     pub(crate) centre: GridPoint,
     pub(crate) a: GridPoint,
     pub(crate) middle: GridPoint,
@@ -20,14 +20,14 @@ pub(crate) struct Side {
 /// The four sides of a node.
 #[derive(Clone, Copy, Debug, PartialEq, Eq)]
 pub(crate) struct Fan {
-    pub(crate) south: Side,
-    pub(crate) east: Side,
-    pub(crate) north: Side,
-    pub(crate) west: Side,
+    pub(crate) south: FanSide,
+    pub(crate) east: FanSide,
+    pub(crate) north: FanSide,
+    pub(crate) west: FanSide,
 }
 
 /// Whether the triangle of the whole side and those of its halves follow the heights.
-fn one_follows(grid: &Grid, tol: u16, side: Side) -> bool
+fn one_follows(grid: &Grid, tol: u16, side: FanSide) -> bool
     requires { IsSideOf grid.now side }
     ensures { result ≡ side_follows grid.now tol side }
 {
@@ -48,7 +48,7 @@ pub(crate) fn fan_follows(grid: &Grid, tol: u16, fan: &Fan) -> bool
 }
 
 /// Whether the triangle of the whole side follows the height at the side's midpoint.
-fn middle_follows(grid: &Grid, tol: u16, side: Side) -> bool
+fn middle_follows(grid: &Grid, tol: u16, side: FanSide) -> bool
     requires { IsSideOf grid.now side }
     ensures { result ≡ middle_follows grid.now tol side }
 {
@@ -87,13 +87,13 @@ pub(crate) fn fan_of(node: &Node) -> Fan
     };
     let north_west = GridPoint { i, j: j + side };
     Fan {
-        south: Side {
+        south: FanSide {
             centre,
             a: south_west,
             middle: GridPoint { i: i + half, j },
             b: south_east,
         },
-        east: Side {
+        east: FanSide {
             centre,
             a: south_east,
             middle: GridPoint {
@@ -102,7 +102,7 @@ pub(crate) fn fan_of(node: &Node) -> Fan
             },
             b: north_east,
         },
-        north: Side {
+        north: FanSide {
             centre,
             a: north_east,
             middle: GridPoint {
@@ -111,7 +111,7 @@ pub(crate) fn fan_of(node: &Node) -> Fan
             },
             b: north_west,
         },
-        west: Side {
+        west: FanSide {
             centre,
             a: north_west,
             middle: GridPoint { i, j: j + half },

@@ -20,7 +20,7 @@ use std::alloc::Global;
 use terrain_base::NoMemory;
 
 /// The line from one eye to another.
-fn line_of(from: Eye, to: Eye) -> Line
+fn line_between(from: Eye, to: Eye) -> Line
     requires from { IsEye from }
     requires to { IsEye to }
     ensures line { IsLine result }
@@ -80,7 +80,7 @@ pub fn sight(alloc: Global, field: &MeshField, from: Eye, to: Eye) -> Result<Sig
         (IsAnswer (triangles_of field.now) (place from.spot) from.metres (place to.spot) to.metres) }
 {
     let tris = field.tris();
-    let line = line_of(from, to);
+    let line = line_between(from, to);
     let list = breaks(alloc, field, from.spot, to.spot)?;
     for bend in &list {
         if is_under(&line, bend.at, bend.metres) {

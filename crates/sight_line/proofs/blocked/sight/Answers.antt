@@ -21,18 +21,18 @@ returns-then-is_under-clause-clear c =
     let bs = c.deref-bend-items.result.now in
     let profile : IsProfile ts p q bs =
     subst (λ (xs : List Break). IsProfile ts p q xs) (sym c.deref-bend-items.ensures.value) c.in_ok-list.ensures.profile in
-    let line = c.line_of-line.result in let i = c.loop-bend.bend-index in
+    let line = c.line_between-line.result in let i = c.loop-bend.bend-index in
     let d : Break = record {
       at = record { over = pos 0; under = pos 0 };
       metres = record { over = pos 0; under = pos 0 };
     } in
     let bend = get_or bs i d in
-    let asked = rw (c.line_of-line.ensures.start, c.line_of-line.ensures.end) at c.is_under.ensures in
-    let height = rw (c.line_of-line.ensures.start, c.line_of-line.ensures.end) at c.height_of.ensures.value in
+    let asked = rw (c.line_between-line.ensures.start, c.line_between-line.ensures.end) at c.is_under.ensures in
+    let height = rw (c.line_between-line.ensures.start, c.line_between-line.ensures.end) at c.height_of.ensures.value in
     let is = blocked ts p q a b cover bs profile i d c.loop-bend-test.true c.loop-bend.invariant
     (asked.0 c.if-is_under.true) c.holder_at.result c.height_of.result
     (same_holder ts c.tris-tris.result.now p q (at_place line.from) (at_place line.to) bend.at c.holder_at.result
-    c.tris-tris.ensures.tris c.line_of-line.ensures.from c.line_of-line.ensures.to c.holder_at.ensures) height
+    c.tris-tris.ensures.tris c.line_between-line.ensures.from c.line_between-line.ensures.to c.holder_at.ensures) height
     c.height_of.ensures.lowest in
     clear_answer ts p q a b (Blocked bend.at c.holder_at.result bend.metres c.height_of.result) is
 
@@ -44,18 +44,18 @@ returns-then-is_under-clause-answer c =
     let bs = c.deref-bend-items.result.now in
     let profile : IsProfile ts p q bs =
     subst (λ (xs : List Break). IsProfile ts p q xs) (sym c.deref-bend-items.ensures.value) c.in_ok-list.ensures.profile in
-    let line = c.line_of-line.result in let i = c.loop-bend.bend-index in
+    let line = c.line_between-line.result in let i = c.loop-bend.bend-index in
     let d : Break = record {
       at = record { over = pos 0; under = pos 0 };
       metres = record { over = pos 0; under = pos 0 };
     } in
     let bend = get_or bs i d in
-    let asked = rw (c.line_of-line.ensures.start, c.line_of-line.ensures.end) at c.is_under.ensures in
-    let height = rw (c.line_of-line.ensures.start, c.line_of-line.ensures.end) at c.height_of.ensures.value in
+    let asked = rw (c.line_between-line.ensures.start, c.line_between-line.ensures.end) at c.is_under.ensures in
+    let height = rw (c.line_between-line.ensures.start, c.line_between-line.ensures.end) at c.height_of.ensures.value in
     let is = blocked ts p q a b cover bs profile i d c.loop-bend-test.true c.loop-bend.invariant
     (asked.0 c.if-is_under.true) c.holder_at.result c.height_of.result
     (same_holder ts c.tris-tris.result.now p q (at_place line.from) (at_place line.to) bend.at c.holder_at.result
-    c.tris-tris.ensures.tris c.line_of-line.ensures.from c.line_of-line.ensures.to c.holder_at.ensures) height
+    c.tris-tris.ensures.tris c.line_between-line.ensures.from c.line_between-line.ensures.to c.holder_at.ensures) height
     c.height_of.ensures.lowest in
     is
 
