@@ -52,9 +52,9 @@ fn read_rows<S: Store>(
 
 /// What the files of the store read as: params, what is under way, and the cells in short. Refused, but for a stop by
 /// the store or for want of memory, exactly where the files read as no state: where the manifest is of an old version,
-/// is not held (line 0) or is refused for a line, or where the first row whose cell is not held shows trouble. The cell
-/// of an unfinished put is read from the stage. Each cell is fetched once, and one at a time is held, whole only where
-/// it is refused. Changes nothing held and adds nothing to the log, whatever it answers.
+/// is not held (line 0) or is refused for a line, or where the first row whose cell is not held shows trouble. The
+/// cell of an unfinished put is read from the stage. Each cell is fetched once, and at most one at a time is in
+/// memory. Changes nothing held and adds nothing to the log, whatever it answers.
 pub fn read_database<S: Store>(alloc: Global, store: &mut S) -> Result<Reading, EngineAnswer>
     ensures found { IfOk result (λ reading. (files : Files) → S.holds store.old ≡ Some files
         → Found files reading) }

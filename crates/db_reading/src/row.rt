@@ -89,7 +89,7 @@ fn judge(key: CellKey, name: Name, bytes: &[u8]) -> Result<Summary, CellTrouble>
     }
 }
 
-// The cell of a row in short. It is fetched once, and held whole only where it is refused.
+// The cell of a row in short. It is fetched once, whole only where a pass over it does not do.
 pub(crate) fn read_row<S: Store>(
     alloc: Global,
     store: &mut S,
@@ -106,7 +106,7 @@ pub(crate) fn read_row<S: Store>(
     ensures cause { HasCause (S.faults store.old) (S.faults store.new) result }
 {
     let name = kept_name(mark, key);
-    let judged = match store.get_by(&name, &FactsReading::new(alloc))? {
+    let judged = match store.get_by(&name, &FactsReading { alloc })? {
         Some(ReadBy::Found(facts)) => judge_facts(key, name, &facts),
         Some(ReadBy::Whole(bytes)) => judge(key, name, &bytes),
         None => Err(CellTrouble::Lost { name }),

@@ -58,7 +58,7 @@ posts_are : (bytes text : List ℕ) (columns rows : ℕ) → text ≡ text_behin
 unfolding posts_in post_in
 posts_are bytes text columns rows t c r = rw (t, c, r) refl
 
-counted_by : (bytes text : List ℕ) (columns rows : ℕ) (counts : Counts) → text ≡ text_behind_lead bytes → columns ≡ columns_in bytes → rows ≡ rows_in bytes
+pub counted_by : (bytes text : List ℕ) (columns rows : ℕ) (counts : Counts) → text ≡ text_behind_lead bytes → columns ≡ columns_in bytes → rows ≡ rows_in bytes
     → counts.voids ≡ sum_by (count_by is_void_post) (map (posts_at text rows) (range_with_len 0 columns)) → counts.extremes ≡ fold (fold widened) None (map (posts_at text rows) (range_with_len 0 columns)) → IsCounted bytes counts
 unfolding voids_in extremes_in
 counted_by bytes text columns rows counts t c r voids extremes =

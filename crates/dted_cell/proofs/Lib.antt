@@ -3,6 +3,7 @@ pub mod Cells
 pub mod Columns
 pub mod Extremes
 pub mod First
+pub mod Fronts
 pub mod HeaderLaws
 pub mod Headers
 pub mod Heights
@@ -11,11 +12,13 @@ pub mod Lanes
 pub mod Leads
 pub mod Numbers
 pub mod Origins
+pub mod OwnBytes
 pub mod Passes
 pub mod RecordLaws
 pub mod Records
 pub mod Rows
 pub mod Shapes
 pub mod Squares
+pub mod Streams
 pub mod Views
 pub mod WholeCells

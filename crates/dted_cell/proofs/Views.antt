@@ -49,7 +49,7 @@ profile_fits length rows columns col long h =
     let more : col + 1 ≤ columns = omega arith in
     omega (arith, mul-le-mul_right (12 + 2 * rows) more)
 
-byte_within : (text : List ℕ) (a n i : ℕ) → i < n → slice_index (slice_range text a (a + n)) i ≡ slice_index text (a + i)
+pub byte_within : (text : List ℕ) (a n i : ℕ) → i < n → slice_index (slice_range text a (a + n)) i ≡ slice_index text (a + i)
 byte_within text a n i h =
     let size : a + n - a ≡ n = omega arith in
     rw size (get_or-take n (drop a text) i 0 h ∙ get_or-drop a text i 0)

@@ -22,7 +22,7 @@ long_by : (bytes : List ℕ) (n : ℕ) → is_shorter bytes n ≡ false → n �
 unfolding text_behind_lead
 long_by bytes n e = omega (arith, ltb-false (length bytes) (lead_of bytes + n) e, length-drop (lead_of bytes) bytes)
 
-by_long : (bytes : List ℕ) (n : ℕ) → n ≤ length (text_behind_lead bytes) → 0 < n → is_shorter bytes n ≡ false
+pub by_long : (bytes : List ℕ) (n : ℕ) → n ≤ length (text_behind_lead bytes) → 0 < n → is_shorter bytes n ≡ false
 unfolding text_behind_lead
 by_long bytes n h p = le-ltb (length bytes) (lead_of bytes + n) (omega (arith, length-drop (lead_of bytes) bytes))
 

@@ -8,7 +8,7 @@ pub mod Record
 pub mod Cell
 pub mod CellLaws
 pub mod Counts
-pub mod Facts
 pub mod Good
+pub mod Facts
 pub mod Trouble
 pub mod Words

@@ -1,5 +1,5 @@
 -- The data records of a cell, one for each meridian from west to east (MIL-PRF-89020, data record).
-use Rattle.std.specs.Prelude.{◌≡◌, ℕ, ◌+◌, ◌*◌, ◌<◌, List, map, sum, slice_index, slice_range}
+use Rattle.std.specs.Prelude.{◌≡◌, ℕ, ◌+◌, ◌*◌, ◌<◌, List, map, sum, take, slice_index, slice_range}
 use Rattle.dted_cell.specs.Field.{word_at, long_at}
 use Rattle.std.specs.List.{range_with_len}
 use Rattle.terrain_base.specs.declared.post.Post.{Post}
@@ -34,3 +34,16 @@ pub record IsRecord (text : List ℕ) (rows col : ℕ) : Type 0 where
 -- the posts of a record, from the south on
 abbrev pub posts_at : List ℕ → ℕ → ℕ → List Post
 posts_at text rows col = map (λ row. post_of (word_at text (elevation_at rows col row))) (range_with_len 0 rows)
+
+-- ---- a record by its own bytes
+
+-- the bytes of a record: the sentinel, the longitude count, the elevations and the checksum of what stands before it
+pub record AreRecord (bytes : List ℕ) (rows col : ℕ) : Type 0 where
+  pub sentinel : slice_index bytes 0 ≡ 170
+  pub column : word_at bytes 4 ≡ col
+  pub checksum : long_at bytes (8 + 2 * rows) ≡ sum (take (8 + 2 * rows) bytes)
+  pub heights : (row : ℕ) → row < rows → IsElevation (word_at bytes (8 + 2 * row))
+
+-- its posts, from the south on
+abbrev pub posts_of : List ℕ → ℕ → List Post
+posts_of bytes rows = map (λ row. post_of (word_at bytes (8 + 2 * row))) (range_with_len 0 rows)

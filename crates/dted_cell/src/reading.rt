@@ -6,17 +6,11 @@ use std::alloc::Global;
 use std::io::{self, Read};
 use terrain_base::Reading;
 
-/// Looks for the cell of a file in short, by `read_facts`.
+/// Looks for the cell of a file in short, by [`read_facts`].
 #[derive(Clone, Copy)]
 pub struct FactsReading {
-    alloc: Global,
-}
-
-impl FactsReading {
-    /// A reading that takes the room for one data record from here.
-    pub fn new(alloc: Global) -> FactsReading {
-        FactsReading { alloc }
-    }
+    /// Where the room for one data record is taken from.
+    pub alloc: Global,
 }
 
 impl Reading for FactsReading {

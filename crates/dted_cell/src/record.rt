@@ -23,7 +23,7 @@ ghost use Rattle.std.specs.Result.{result_err};
 ghost use Rattle.std.specs.List.{range_with_len};
 ghost use Rattle.common_laws.specs.First.{◌when◌, first_of};
 ghost use Rattle.dted_cell.specs.Elevation.{signed_of, is_out_of_range};
-ghost use Rattle.dted_cell.specs.Record.{record_at, elevation_at, posts_at, IsRecord};
+ghost use Rattle.dted_cell.specs.Record.{record_at, elevation_at, posts_at, posts_of, AreRecord, IsRecord};
 ghost use Rattle.dted_cell.specs.Cell.{is_void_post, widened};
 ghost use Rattle.dted_cell.specs.Refusal.{height_condition, record_conditions};
 
@@ -37,11 +37,18 @@ use crate::tally::tally_of;
 // The byte that a data record begins with.
 const SENTINEL: u8 = 0xAA;
 
+// How many bytes a record has.
+pub(crate) fn record_length(rows: u16) -> usize
+    ensures { result ≡ 12 + 2 * rows }
+{
+    12 + 2 * rows as usize
+}
+
 // Where the record of a column begins.
 pub(crate) fn record_start(rows: u16, col: u16) -> usize
     ensures { result ≡ record_at rows col }
 {
-    HEADER_LENGTH + col as usize * (12 + 2 * rows as usize)
+    HEADER_LENGTH + col as usize * record_length(rows)
 }
 
 // The refusal of a height, by its word.
@@ -82,6 +89,28 @@ fn summed(bytes: &[u8]) -> u32
     bytes.iter().map(|byte| u32::from(*byte)).sum()
 }
 
+// What the posts of a column's record are counted to, by the bytes of the record, where they are good.
+pub(crate) fn counts_of(bytes: &[u8], rows: u16, col: u16) -> Option<Counts>
+    requires { length bytes.now ≡ 12 + 2 * rows }
+    ensures good { IsSome result ↔ AreRecord bytes.now rows col }
+    ensures voids { IfSome result (λ counts. counts.voids ≡ count_by is_void_post (posts_of bytes.now rows)) }
+    ensures few { IfSome result (λ counts. counts.voids ≤ rows) }
+    ensures extremes { IfSome result (λ counts. counts.extremes ≡ fold widened None (posts_of bytes.now rows)) }
+{
+    let end = 8 + 2 * rows as usize;
+    if bytes[0] != SENTINEL {
+        return None;
+    }
+    if word(bytes, 4) != col {
+        return None;
+    }
+    let tally = tally_of(&bytes[8..end], rows)?;
+    if long(bytes, end) != summed(&bytes[..8]) + tally.sum {
+        return None;
+    }
+    Some(tally.counts)
+}
+
 // What the posts of a column's record are counted to, where the record is good.
 fn good_record(text: &[u8], rows: u16, col: u16) -> Option<Counts>
     requires { record_at rows (col + 1) ≤ length text.now }
@@ -92,18 +121,7 @@ fn good_record(text: &[u8], rows: u16, col: u16) -> Option<Counts>
         counts.extremes ≡ fold widened None (posts_at text.now rows col)) }
 {
     let start = record_start(rows, col);
-    let end = start + 8 + 2 * rows as usize;
-    if text[start] != SENTINEL {
-        return None;
-    }
-    if word(text, start + 4) != col {
-        return None;
-    }
-    let tally = tally_of(&text[start + 8..end], rows)?;
-    if long(text, end) != summed(&text[start..start + 8]) + tally.sum {
-        return None;
-    }
-    Some(tally.counts)
+    counts_of(&text[start..start + record_length(rows)], rows, col)
 }
 
 // The refusal of a column's record.

@@ -1,6 +1,7 @@
 // Cells built by hand from the layout of their header, and what is read of them.
-use crate::{CellBytes, CellRefusal, CellView};
+use crate::{CellBytes, CellRefusal, CellView, read_facts};
 use std::alloc::{AllocError, Global};
+use std::io::{self, ErrorKind, Read};
 use terrain_base::{CellLevel, Extremes, Post};
 
 // What a cell of one word, but for one post, has in its header and records.
@@ -312,4 +313,73 @@ fn refused_bytes_come_back(rt: HostRuntime) {
         }
     );
     assert_eq!(rt; refused.bytes.len(), 3);
+}
+
+// A reader that fails once its bytes are read.
+#[derive(Drop)]
+struct Failing<'a> {
+    bytes: &'a [u8],
+}
+
+impl<'a> Read for Failing<'a> {
+    fn read(&mut self, buf: &mut [u8]) -> io::Result<usize> {
+        if self.bytes.is_empty() {
+            return Err(ErrorKind::PermissionDenied.into());
+        }
+        self.bytes.read(buf)
+    }
+}
+
+#[test]
+fn facts_are_read_record_by_record(rt: HostRuntime) {
+    let plan = Plan {
+        word: 0xFFFF,
+        odd_word: 7,
+        ..EQUATOR
+    };
+    let mut cell = build(rt.alloc(), &plan).expect(&rt, "memory");
+    cell.extend_from_slice(b"behind").expect(&rt, "memory");
+    let mut reader: &[u8] = &cell;
+    let facts = read_facts(rt.alloc(), &mut reader)
+        .expect(&rt, "no failure")
+        .expect(&rt, "a cell");
+    assert_eq!(rt; (facts.square.lat(), facts.square.lon()), (90, 180));
+    assert_eq!(rt; facts.level, CellLevel::Zero);
+    assert_eq!(rt; facts.voids, 14640);
+    assert_eq!(rt;
+        facts.extremes,
+        Some(Extremes {
+            least: 7,
+            greatest: 7
+        })
+    );
+    assert_eq!(rt; reader.len(), 6);
+}
+
+#[test]
+fn what_is_no_plain_cell_has_no_facts(rt: HostRuntime) {
+    let cell = build(rt.alloc(), &EQUATOR).expect(&rt, "memory");
+    let mut bad = build(rt.alloc(), &EQUATOR).expect(&rt, "memory");
+    put(&mut bad, 3428 + 120 * 254 + 9, &[1]);
+    let labels = labelled(rt.alloc(), 1, &cell).expect(&rt, "memory");
+    for file in [front(&cell, 100), front(&cell, 34161), &bad, &labels] {
+        let mut reader: &[u8] = file;
+        let facts = read_facts(rt.alloc(), &mut reader).expect(&rt, "no failure");
+        assert!(rt; facts.is_none());
+    }
+}
+
+#[test]
+fn failure_of_a_reader_is_handed_on(rt: HostRuntime) {
+    let cell = build(rt.alloc(), &EQUATOR).expect(&rt, "memory");
+    for length in [100, 3428, 5000] {
+        let mut reader = Failing {
+            bytes: front(&cell, length),
+        };
+        let failure = read_facts(rt.alloc(), &mut reader).err();
+        assert_eq!(rt;
+            failure.map(|error| error.kind()),
+            Some(ErrorKind::PermissionDenied)
+        );
+    }
 }

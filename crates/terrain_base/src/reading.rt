@@ -22,7 +22,9 @@ pub trait Reading {
 /// What a reading found in a file, or the whole of it where the reading says nothing.
 #[derive(Drop)]
 pub enum ReadBy<F, W> {
+    /// What was found.
     Found(F),
+    /// The whole.
     Whole(W),
 }
 

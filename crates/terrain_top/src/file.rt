@@ -56,7 +56,7 @@ pub(crate) fn fetch_facts<Li: Library>(
         (λ held. FetchesBy AreFacts fetched (map.get held file.now) limit)) }
     ensures asks { Asks Li.holds Li.faults files.old files.new result }
 {
-    match files.fetch_by(file, limit, &FactsReading::new(alloc)) {
+    match files.fetch_by(file, limit, &FactsReading { alloc }) {
         Ok(fetched) => Ok(fetched),
         Err(fault) => Err(stopped(fault)),
     }
