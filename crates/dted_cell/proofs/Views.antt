@@ -10,6 +10,7 @@ use Rattle.dted_cell.specs.Cell.{square_in, level_in, columns_in, rows_in, post_
 use Rattle.dted_cell.proofs.WholeCells.{cell_by}
 use Rattle.dted_cell.specs.Counts.{IsCounted}
 use Rattle.dted_cell.specs.declared.counts.Counts.{Counts}
+use Rattle.dted_cell.specs.Facts.{AreFacts}
 use Rattle.dted_cell.specs.Good.{IsGood}
 use Rattle.dted_cell.specs.declared.header.Header.{Header}
 
@@ -42,6 +43,15 @@ module _ (bytes value : List ℕ) (counts : Counts) (counted : IsCounted bytes c
 
   pub view_extremes : counts.extremes ≡ extremes_in value
   view_extremes = counted.extremes_are ∙ ap extremes_in same
+
+pub view_facts : (bytes value : List ℕ) (header : Header) (counts : Counts) → IsGood bytes header → IsCounted bytes counts → bytes ≡ value → AreFacts value (record { square = header.square; level = header.level; voids = counts.voids; extremes = counts.extremes })
+view_facts bytes value header counts good counted same = record {
+  accepted = view_accepted bytes value header good same;
+  square_is = view_square bytes value header good same;
+  level_is = view_level bytes value header good same;
+  voids_are = view_voids bytes value counts counted same;
+  extremes_are = view_extremes bytes value counts counted same;
+}
 
 -- ---- a column's elevations
 pub profile_fits : (length rows columns col : ℕ) → record_at rows columns ≤ length → col < columns → elevation_at rows col rows ≤ length

@@ -178,7 +178,7 @@ impl<'a> CellView<'a> {
     }
 
     /// The cell in short.
-    #[tactic(auto, using(crate::proofs::Views::view_accepted, crate::proofs::Views::view_square, crate::proofs::Views::view_level, crate::proofs::Views::view_voids, crate::proofs::Views::view_extremes))]
+    #[tactic(auto, using(crate::proofs::Views::view_facts))]
     pub fn facts(&self) -> CellFacts
         ensures { AreFacts self.now result }
     {

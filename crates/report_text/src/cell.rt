@@ -23,7 +23,8 @@ fn ends(extremes: Option<Extremes>) -> (Option<i16>, Option<i16>)
 /// meridians and posts on each it has, its least and greatest height in metres (a dash where every
 /// post is void) and how many posts are void.
 pub fn cell_line(alloc: Global, facts: &CellFacts) -> Result<String, NoMemory>
-    ensures { IfOk result (λ line. (bytes : List ℕ) → AreFacts bytes facts.now → string_bytes line ≡ cell_line_of bytes) }
+    ensures { IfOk result (λ line. (bytes : List ℕ) → AreFacts bytes facts.now
+        → string_bytes line ≡ cell_line_of bytes) }
 {
     let CellFacts {
         square,

@@ -14,7 +14,8 @@ pub record IsFoundIn {F : Type 0} (tells : List ℕ → F → Type 0) (found : F
 -- what is fetched where this is held under the name: what the reading found in at most so many bytes, or what a fetch
 -- gives
 abbrev pub FetchesBy : {F : Type 0} → (List ℕ → F → Type 0) → ReadBy F Fetched → Option (List ℕ) → ℕ → Type 0
-FetchesBy tells (Found found) held limit = IsSomeAnd held (λ bytes. (length bytes ≤ limit) × IsFoundIn tells found bytes)
+FetchesBy tells (Found found) held limit =
+    IsSomeAnd held (λ bytes. (length bytes ≤ limit) × IsFoundIn tells found bytes)
 FetchesBy tells (Whole fetched) held limit = Fetches fetched held limit
 
 -- what is got where this is held under the name: what the reading found in the bytes, or all of them
