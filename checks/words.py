@@ -82,6 +82,20 @@ def cell_files(folder):
     yield "audit of a long file", said(folder, ".", "audit", "long.dt0") == (1, b"refused F2 too long long.dt0 limit 16777216\n", b"")
 
 
+def cell_ways(folder):
+    """A cell tells the same behind tape labels, before other bytes and through a pipe, at most as long as may be."""
+    flat = cells.flat(7, "n00e000", changes=[(3, 4, None), (120, 120, -9)])
+    good = (0, b"n00e000 level 0 columns 121 rows 121 min -9 max 7 voids 1\n", b"")
+    labelled = b"VOL1".ljust(80) + b"HDR1".ljust(80) + flat
+    for title, content in (("alone", flat), ("labelled", labelled), ("longer", flat + b"UHL1"), ("longest", flat.ljust(33_554_432))):
+        (folder / "cell.dt0").write_bytes(content)
+        yield title, said(folder, ".", "cell", "cell.dt0") == good
+    (folder / "cell.dt0").write_bytes(flat.ljust(33_554_433))
+    yield "too long", said(folder, ".", "cell", "cell.dt0") == (1, b"refused F2 too long cell.dt0 limit 33554432\n", b"")
+    yield "through a pipe", said(folder, ".", "cell", "/dev/stdin", input=flat) == good
+    yield "not all through a pipe", said(folder, ".", "cell", "/dev/stdin", input=flat[:-1])[1] == b"refused C1 too short need 34162 have 34161\n"
+
+
 def cell_refusals(folder):
     """Each refusal of a cell's file, by a flat cell that is spoilt in one place."""
     flat = cells.flat(0, "n00e000")
@@ -146,6 +160,20 @@ def output_faults(folder):
             yield f"{words[0]} is done", said(folder, database, "list")[1].startswith(listing)
 
 
+def labelled_rows(folder):
+    """A database's cells are read where they have tape labels and where they have none."""
+    for name, content in (("flat.dt0", cells.flat(7, "n00e000")), ("labelled.dt0", b"HDR1".ljust(80) + cells.flat(5, "n00e001"))):
+        (folder / name).write_bytes(content)
+    rows = (
+        (["init", "4", "0"], b"created cap 4 fill 0\n"),
+        (["add", "flat.dt0"], b"added n00e000 tiles 6\n"),
+        (["add", "labelled.dt0"], b"added n00e001 tiles 6\n"),
+        (["list"], b"cap 4 fill 0 cells 2\nn00e000 level 0 min 7 max 7\nn00e001 level 0 min 5 max 5\n"),
+    )
+    for words, text in rows:
+        yield f"{words}", said(folder, "db", *words) == (0, text, b"")
+
+
 def store_faults(folder):
     """A folder or a long file under a file's name is a fault of the store, and a folder that is not there is an empty store."""
     yield "list of no folder", said(folder, "nowhere", "list") == (1, b"refused K5 not a database line 0\n", b"")
@@ -161,9 +189,9 @@ def store_faults(folder):
 
 def main():
     failed = 0
-    checks = [usage_lines, questions, cell_files, cell_refusals, tile_refusals, full_output]
+    checks = [usage_lines, questions, cell_files, cell_ways, cell_refusals, tile_refusals, full_output]
     if "init" in stage.commands_of([stage.PROGRAM]):
-        checks += [output_faults, store_faults]
+        checks += [output_faults, labelled_rows, store_faults]
     for check in checks:
         with tempfile.TemporaryDirectory() as folder:
             rows = list(check(pathlib.Path(folder)))
