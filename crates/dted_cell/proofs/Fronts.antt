@@ -1,17 +1,16 @@
 -- The header that a file's first bytes are is the file's.
-use Rattle.std.proofs.Common.{◌≡◌, ℕ, ◌+◌, ◌-◌, ◌*◌, ◌<◌, ◌≤◌, ◌++◌, ◌&&◌, ◌||◌, Bool, true, false, not, nat_le, codes, List, length, take, drop, slice_index, slice_range, None, refl, sym, ap, ap₂, ◌∙◌, arith, length-append}
+use Rattle.std.proofs.Common.{◌≡◌, ℕ, ◌+◌, ◌-◌, ◌*◌, ◌<◌, ◌≤◌, ◌++◌, ◌&&◌, ◌||◌, Bool, true, nat_le, codes, List, length, take, drop, slice_index, slice_range, None, refl, sym, ap, ap₂, ◌∙◌, arith, length-append}
 use Rattle.std.proofs.lemmas.Bool.Decides.{nat_tests}
 use Rattle.std.proofs.lemmas.List.{drop-append-le, take-append-le, length-drop, get_or_append_left}
-use Rattle.std.specs.List.{prefix_len, range_with_len}
 use Rattle.common_laws.specs.First.{first_of}
 use Rattle.common_laws.proofs.First.{neither, none_of_two, when_not}
 use Rattle.terrain_base.specs.Level.{columns_of, rows_of}
 use Rattle.terrain_base.specs.declared.level.CellLevel.{CellLevel}
 use Rattle.terrain_base.specs.declared.level.CellLevel.TheVariants.{Zero, One, Two}
 use Rattle.dted_cell.specs.declared.header.Header.{Header}
-use Rattle.dted_cell.specs.Field.{number_at, is_number, number_of, spells}
+use Rattle.dted_cell.specs.Field.{spells}
 use Rattle.dted_cell.specs.Fields.{SaysHeader}
-use Rattle.dted_cell.specs.Header.{east, west, north, south, is_whole, degrees_from, degrees_east, degrees_north, square_of, square_at, level_of_interval, level_at, series_of}
+use Rattle.dted_cell.specs.Header.{east, west, north, south, is_whole, degrees_from, square_of, square_at, level_at, series_of}
 use Rattle.dted_cell.specs.Lead.{is_label, lead_of, text_behind_lead}
 use Rattle.dted_cell.specs.Cell.{square_in, level_in, columns_in, rows_in}
 use Rattle.dted_cell.specs.Refusal.{angle_conditions, lattice_conditions, field_conditions, shape_conditions, label_conditions, text_conditions, header_conditions}

@@ -1,10 +1,9 @@
 -- A cell whose bytes come one part after another: its header, and then record by record.
-use Rattle.std.proofs.Common.{◌≡◌, ℕ, ◌+◌, ◌*◌, ◌<◌, ◌≤◌, List, [], ◌++◌, length, map, fold, slice_range, Option, Some, None, IfSome, Result, Ok, Err, IfOk, refl, sym, ap, ap₂, ◌∙◌, subst, inl, inr, arith, append_assoc, length-append}
-use Rattle.std.specs.List.{range_with_len, sum_by, count_by}
+use Rattle.std.proofs.Common.{◌≡◌, ℕ, ◌+◌, ◌*◌, ◌<◌, ◌≤◌, List, ◌++◌, length, fold, slice_range, Option, Some, None, IfSome, Result, Ok, Err, IfOk, sym, ap, ap₂, ◌∙◌, subst, inl, inr, arith, append_assoc, length-append}
+use Rattle.std.specs.List.{count_by}
 use Rattle.std.specs.Result.{result_ok, result_err}
 use Rattle.std.specs.Io.KnownBytes.{Consumes}
 use Rattle.std.proofs.lemmas.Bool.{cases_eq}
-use Rattle.terrain_base.specs.declared.post.Extremes.{Extremes}
 use Rattle.common_laws.specs.First.{first_of}
 use Rattle.common_laws.proofs.First.{none_of_two, when_not, none_by_flat}
 use Rattle.dted_cell.specs.declared.counts.Counts.{Counts}
@@ -14,7 +13,7 @@ use Rattle.dted_cell.specs.declared.facts.CellFacts.{CellFacts}
 use Rattle.dted_cell.specs.Lead.{lead_of, text_behind_lead}
 use Rattle.dted_cell.specs.Fields.{SaysHeader}
 use Rattle.dted_cell.specs.Refusal.{header_conditions, record_conditions, data_conditions, refusal_of}
-use Rattle.dted_cell.specs.Record.{record_at, posts_at, posts_of, AreRecord, IsRecord}
+use Rattle.dted_cell.specs.Record.{record_at, posts_at, IsRecord}
 use Rattle.dted_cell.specs.Cell.{rows_in, columns_in, is_void_post, widened}
 use Rattle.dted_cell.specs.Counts.{joined, IsCounted}
 use Rattle.dted_cell.specs.Facts.{IsFront, IsColumn, HasColumns, AreRecords, AreFacts}
@@ -26,10 +25,6 @@ use Rattle.dted_cell.proofs.WholeCells.{by_long}
 use Rattle.dted_cell.proofs.OwnBytes.{part_between, to_text, posts_in_text}
 
 -- ---- known bytes
-pub consumes_none : (known : Option (List ℕ)) → Consumes known known []
-consumes_none None = tt
-consumes_none (Some bytes) = refl
-
 pub consumes_then : (first second third : Option (List ℕ)) (before more : List ℕ) → Consumes first second before → Consumes second third more → Consumes first third (before ++ more)
 consumes_then None second third before more h k = tt
 consumes_then (Some all) None third before more h k = absurd h
@@ -49,12 +44,6 @@ front_read bytes before after (Err refusal) (Some other) read front is = cc
 front_read bytes before after (Err refusal) None read front is = tt
 
 -- ---- one record more
-pub no_records : (rows : ℕ) (counts : Counts) → counts.voids ≡ 0 → counts.extremes ≡ None → AreRecords [] rows 0 counts
-no_records rows counts voids extremes = record {
-  length_is = omega arith;
-  each = λ header rest long. record { records = λ col h. absurd (omega arith); voids_are = voids; extremes_are = extremes };
-}
-
 -- where the record of a column stands, behind a header and the records before it
 next_place : (header records : List ℕ) (rows col : ℕ) → length header ≡ 3428 → length records ≡ col * (12 + 2 * rows) → length (header ++ records) ≡ record_at rows col
 next_place header records rows col h k = omega (arith, length-append header records, h, k)
